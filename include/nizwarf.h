@@ -1,86 +1,103 @@
-/* The door: a file system of your own, for requests of FUSE.
+/* nizwarf.h - FUSE requests and replies as data: a codec without I/O ("sans-I/O").
  *
- * A request is split at its call. nizwarf_ask reads the request: it is finished, with a reply that
- * needs no file system, with none, or with a refusal; or it asks for a call, which is told as data.
- * You make that call, on any thread, as late as you like. nizwarf_reply takes the call and what it
- * answered, and puts the reply.
+ * The library speaks FUSE 7.38, and optional operations of later versions. It opens no file and no socket,
+ * starts no thread, and calls no function of yours. To serve a request that a kernel or a virtual machine has
+ * sent:
  *
- *	nizwarf_slot slot = NIZWARF_NONE;
+ *   1. nizwarf_decode() decodes it. It returns NIZWARF_CALL and fills in `call` if the file system must act,
+ *      NIZWARF_OK if the reply is already in the reply buffer (or none is due), and any other code if the
+ *      request is malformed.
+ *   2. The program makes the call, on any thread and at any later time.
+ *   3. nizwarf_encode() encodes the answer into the reply buffer.
+ *
+ * For example:
+ *
+ *	nizwarf_scratch scratch = NIZWARF_SCRATCH_INIT;
  *	nizwarf_session session = { 0, 4096, 1 << 20 };
  *	..
- *	code = nizwarf_ask(&slot, &session, request, segments, room, rooms, &call, &told);
- *	if (code == NIZWARF_ASKED) {
- *		nizwarf_answer answer = NIZWARF_NO_ANSWER;
+ *	code = nizwarf_decode(&scratch, &session, 0, request, request_count, reply, reply_count, &call, &result);
+ *	if (code == NIZWARF_CALL) {
+ *		nizwarf_answer answer = NIZWARF_ANSWER_INIT;
  *
  *		answer.error = make_call(&call, &answer);
- *		nizwarf_reply(&slot, &session, &call, &answer, room, rooms, &told);
- *		if (told.give_back)
- *			take_back(told.give_back, 1);
- *		if (call.call == NIZWARF_INIT || call.call == NIZWARF_DESTROY)
- *			session.options = told.options;
+ *		nizwarf_encode(&scratch, &session, &call, &answer, reply, reply_count, &result);
+ *		if (result.forget)
+ *			take_back(result.forget, 1);
+ *		if (call.opcode == NIZWARF_INIT || call.opcode == NIZWARF_DESTROY)
+ *			session.options = result.options;
  *	}
- *	complete(told.len);
+ *	complete(result.len);
  *
- * `answer` begins as EIO: set `error` to 0 when you have answered. Here make_call is a function of yours; it sets the
- * other fields that the call's kind of answer has, and returns 0, or an error number such as ENOENT.
+ * Here make_call, take_back and complete are functions of the program. make_call sets the fields of the
+ * answer that the call's kind of answer has, and returns 0 or an error number such as ENOENT; an answer is
+ * initialised as an error (EIO), so `error` must be set even on success. take_back drops lookups of a node.
  *
- * This file goes in that order: a session, to ask, the call, its answer, to reply. Then come checks of
- * requests, messages as text, and notices; last the functions of the library, and what is inline. nizwarf_ops.h has
- * a table of functions over the door; nizwarf_tree.h, which is included here, a server over a tree in memory.
+ * nizwarf_ops.h has a table of functions on top of these two, which is easier to use. nizwarf_tree.h has a
+ * server over a file system in memory. This file has the session, the functions that
+ * decode, the calls, the answers, the function that encodes, checks and messages as text, notices, and the
+ * functions that other languages link, in this order.
  *
- * A request that is refused, by whichever of the two, has no reply: a virtual machine's is completed
- * with 0 bytes. But the kernel that serves /dev/fuse waits for a reply to each but FORGET, BATCH_FORGET
- * and INTERRUPT: write it a header with EIO, or with ENOMEM after NIZWARF_OUT_OF_MEMORY.
+ * Rejected requests. A request that is rejected has no reply. A virtio request must then be completed with
+ * length 0. The kernel that uses /dev/fuse waits for a reply to each request except FORGET, BATCH_FORGET,
+ * INTERRUPT and NOTIFY_REPLY, so the program must write a header with EIO, or with ENOMEM after
+ * NIZWARF_OUT_OF_MEMORY.
  *
- * Memory. A segment or a room is `len` bytes at `at`, at most SSIZE_MAX, all of them initialised and
- * aligned in no way; `at` isn't NULL, also where `len` is 0. Segments may overlap one another. Bytes of
- * a request must not change during a call: what a guest can write meanwhile is copied first. A length
- * that is longer than the memory is a fault that no function can see.
+ * Requirements. The library cannot check these, and to break one of the first four is undefined behaviour.
  *
- * Who owns what. All structs are yours. What a slot points to is the library's, from the first call
- * that it is lent to up to nizwarf_end_slot. A request is lent to nizwarf_ask alone: nizwarf_reply
- * goes by `call`, which may be copied, and reads no range of it. Texts, items and names are lent for the
- * length of a call. A session, a call and an answer are handed in with all their fields set.
+ *   - All pointers must be valid for the stated lengths, which must not exceed SSIZE_MAX. All bytes must be
+ *     initialised. No alignment is required. A NULL pointer is returned as NIZWARF_NULL, even one to a length
+ *     of 0.
+ *   - A request must not change while it is decoded. So a program must copy it first if a guest can write to
+ *     it.
+ *   - Scratch memory must be used by one call at a time.
+ *   - All fields of a session, a call and an answer must be set.
+ *   - Each decoded call must be made once and answered once, with a reply buffer of the size that it was
+ *     decoded with.
+ *   - Lookups that a result names (`forget`, and directory entries beyond `entries`) must be dropped, because the
+ *     client does not know of them and so never sends a FORGET for them.
  *
- * Rooms. nizwarf_ask and nizwarf_reply write the first `told.put` bytes of the room, as the last they do,
- * and no other; so a room may overlap a request, texts and names. The data of a READ are yours to put,
- * after the first 16 bytes, and nizwarf_reply puts those 16. A reply gets as many bytes of room as
- * its ask had, in any pieces.
+ * Ownership. The program owns all structs. Memory of a nizwarf_scratch belongs to the library until
+ * nizwarf_scratch_free. A request is used by nizwarf_decode only: nizwarf_encode reads the call, which may be
+ * copied, and none of its ranges. Texts, directory entries and names of an answer are used until
+ * nizwarf_encode returns.
  *
- * Threads. The two have no state besides their arguments. A slot is lent to one call at a time, and
- * holds nothing but memory from one call to the next. So one slot a thread will do, with any number of
- * requests in flight, and with requests that are answered on another thread. A session is only
- * read; you write its options. No request is in flight beside an INIT or a DESTROY of a kernel, but
- * one of a guest may be: hand in copies then, of options that are atomic. No function is called from a
- * signal handler, or from the child of a fork of a process with threads.
+ * Buffers. Both functions write the first `written` bytes of the reply buffer, as their last step, and no
+ * others. So the reply buffer may overlap the request, and the texts and names of an answer. For a READ the
+ * program must store the data itself, after the first 16 bytes of the reply buffer; nizwarf_encode writes
+ * these 16.
  *
- * The heap is malloc, realloc and free of the C library that is linked. A slot keeps as many bytes as the
- * longest room that a call was asked or answered with, of a READ 16, and 80 for requests without a call.
+ * Threads. The functions have no state besides their arguments, and any number of threads may call them. One
+ * piece of scratch memory per thread suffices for any number of requests in flight, even if a request is
+ * decoded on one thread and answered on another. A session is only read. If a guest sends other requests
+ * during an INIT or a DESTROY, which a Linux kernel does not, the program must pass a copy of the session
+ * whose options were read atomically. No function may be called from a signal handler, or in the child of a
+ * fork of a process with threads.
  *
- * How structs grow. A function of the library takes its structs in one layout, for good. If one must grow, the
- * library gets a function with a new name for the new layout, which the inline functions call from then on, and
- * keeps the old one, at its version. So a program that was built before goes on with a later library, one
- * that is built anew has the new layout, and one in another language has that of the functions it names. Parts
- * of a program that hand structs to each other are built with one header. A record that has no place in a
- * struct needs none of that: a call tells it as `data`, and an answer is told it as `text`, as linux/fuse.h has
- * it. So it would be with the 288 bytes that a STATX is answered by.
+ * Memory. The library uses malloc, realloc and free. Scratch memory grows to the size of the largest reply
+ * buffer that a call was decoded or answered with (16 bytes for a READ), and 80 bytes for requests without a
+ * call. A program that serves a guest should limit the size of its reply buffers, because the guest chooses
+ * them.
  *
- * Nothing here can see whether you make the call that was told, once, and answer what came of it,
- * and whether you give back what you are told to.
+ * ABI. A function keeps the layout of its structs forever. If a struct must grow, the library gets a new
+ * function for the new layout, which the functions of this header then call, and keeps the old one at its
+ * symbol version. So a program that was built with an earlier header runs with a later library of the same
+ * major version. Parts of a program that pass structs to each other must be built with one header.
  */
 #ifndef NIZWARF_H
 #define NIZWARF_H
 
 #include <stddef.h>
 #include <stdint.h>
-#include <string.h>
+#include <sys/uio.h>
 
-/* The version of this header, of which NIZWARF_VERSION has a byte for each number. A later patch
- * changes nothing here. A later minor version may add functions, codes, calls, kinds of answers and
- * bits, but moves no field and changes no number: a program for an earlier one runs as it did, if it
- * answers ENOSYS to a call it doesn't know. Anything may change with the major one. */
+/* The version of this header. NIZWARF_VERSION has one byte for each number.
+ *
+ * A later patch version changes nothing here. A later minor version may add functions, codes, calls, kinds of
+ * answers and bits, but moves no field and changes no number. So that a program runs with it unchanged, the
+ * program must return ENOSYS for a call that it does not know, and must treat an unknown code as a rejected
+ * request. A major version may change anything. */
 #define NIZWARF_VERSION_MAJOR 0
-#define NIZWARF_VERSION_MINOR 3
+#define NIZWARF_VERSION_MINOR 4
 #define NIZWARF_VERSION_PATCH 0
 #define NIZWARF_VERSION (NIZWARF_VERSION_MAJOR << 16 | NIZWARF_VERSION_MINOR << 8 | NIZWARF_VERSION_PATCH)
 
@@ -88,442 +105,472 @@
 extern "C" {
 #endif
 
-/* The version of the library that is linked, as NIZWARF_VERSION is that of the header. */
+/* Returns the version of the library that is linked, in the form of NIZWARF_VERSION, which is that of the
+ * header. Any thread may call it. */
 uint32_t nizwarf_version(void);
 
 /* ---- A session --------------------------------------------------------------------------------- */
 
-/* What is agreed on with a client. `options` begin as 0: `flags` of INIT are bits 0 to 31, its
- * `flags2` bits 32 to 63. `page_size` is that of the machine, at least 4096; `max_buffer` the largest
- * payload of a request or a reply, from 4096 to 134217728 bytes: 1048576 is virtiofsd's. The two sizes
- * stay as they are. */
+/* A session with a client: the parameters that requests are decoded with. All fields must be set.
+ *
+ * `options` are the options that INIT has negotiated: `flags` of its reply are bits 0 to 31, `flags2` bits 32
+ * to 63. They must be 0 at the beginning. After each INIT and DESTROY the program must set them to `options`
+ * of the result; the library only reads a session. `page_size` is that of the machine, at least 4096.
+ * `max_buffer` is the largest payload of a request or a reply in bytes, from 4096 to 134217728; virtiofsd
+ * uses 1048576. These two must not change during a session, because INIT reports them to the client. */
 typedef struct {
 	uint64_t options;
 	uint32_t page_size;
 	uint32_t max_buffer;
 } nizwarf_session;
 
-/* Memory for one call at a time. It begins as NIZWARF_NONE, and is not copied. */
+/* Scratch memory, which must be used by one call at a time. It must be initialised with NIZWARF_SCRATCH_INIT
+ * and must not be copied, because the memory at `at` belongs to the library until nizwarf_scratch_free frees
+ * it. It keeps no data from one call to the next, so each thread needs one, however many requests are in
+ * flight. */
 typedef struct {
 	void *at;
-} nizwarf_slot;
+} nizwarf_scratch;
 
-/* How a slot begins. */
-#define NIZWARF_NONE \
-	{            \
-		0    \
+/* The initial value of scratch memory, and of a nizwarf_server and a nizwarf_reply_buf of nizwarf_tree.h. */
+#define NIZWARF_SCRATCH_INIT \
+	{                    \
+		0            \
 	}
 
-/* A piece of a request. */
-typedef struct {
-	const void *at;
-	size_t len;
-} nizwarf_segment;
-
-/* A piece of the room for a reply. */
-typedef struct {
-	void *at;
-	size_t len;
-} nizwarf_room;
-
-/* What a function came to. After each of the first eleven, the request is completed with the length
- * that is told, and the session goes on. */
+/* Status codes. After each of the codes 0 to 10 the request must be completed with the length in the result,
+ * and the session goes on. A rejected request has length 0. */
 enum {
-	/* It was answered, or needs no reply, as FORGET, INTERRUPT or DESTROY: the length is 0 then. */
+	/* Success. For a request: the reply is in the reply buffer, or there is no reply (length 0), as for
+	 * FORGET, INTERRUPT and DESTROY. */
 	NIZWARF_OK = 0,
-	/* The request is cut short, or says what has no meaning. */
+	/* Rejected: the request is shorter than its record, or has an invalid value. */
 	NIZWARF_DECODE_MESSAGE = 1,
-	/* The reply is longer than the room, or a READ or a READDIR has no room for a header. */
+	/* The reply does not fit into the reply buffer; or the buffer of a READ or READDIR has no space for a
+	 * header (16 bytes), in which case no call was made. */
 	NIZWARF_ENCODE_MESSAGE = 2,
-	/* The reply could not be flushed. Never answered. */
+	/* The reply could not be flushed. Never returned. */
 	NIZWARF_FLUSH_MESSAGE = 3,
-	/* A name or another part is missing. */
+	/* Rejected: a name or another part is missing. */
 	NIZWARF_MISSING_PARAMETER = 4,
-	/* A name does not end at its only nul. */
+	/* Rejected: a name does not end in its only NUL. */
 	NIZWARF_INVALID_C_STRING = 5,
-	/* A name has no byte. Never answered. */
+	/* A name has no bytes. Never returned. */
 	NIZWARF_INVALID_C_STRING_2 = 6,
-	/* A length in the request is less than what it counts. */
+	/* Rejected: a length in the request is smaller than the part that it describes. */
 	NIZWARF_INVALID_HEADER_LENGTH = 7,
-	/* The value of an extended attribute is not as long as is said. */
+	/* Rejected: the value of an extended attribute does not have the length that the request says. */
 	NIZWARF_INVALID_XATTR_SIZE = 8,
-	/* The security context that was agreed on is missing. */
+	/* Rejected: the security context is missing, although SECURITY_CTX was negotiated. */
 	NIZWARF_MISSING_EXTENSION = 9,
-	/* There is no memory. No call of the file system was made, if it isn't nizwarf_reply that answers so, which
-	 * it does by another slot than the call was asked with. What refuses a request so goes on with the next. */
+	/* Out of memory. From nizwarf_decode: no call was made. nizwarf_encode returns it
+	 * only if it is called with other scratch memory than the call was decoded with. The session stays
+	 * usable. */
 	NIZWARF_OUT_OF_MEMORY = 10,
-	/* There is no server, or a slot had no memory. */
+	/* The server does not exist, or the scratch memory is empty already. */
 	NIZWARF_NO_SERVER = 11,
-	/* There is no server for this size of a page or this largest payload. */
+	/* The page size or the largest payload is out of range. */
 	NIZWARF_WRONG_SIZE = 12,
-	/* The lengths of segments or rooms sum past SIZE_MAX. */
+	/* The lengths of the parts of a request or a reply buffer add up to more than SIZE_MAX. */
 	NIZWARF_TOO_LONG = 13,
-	/* A pointer is NULL. Nothing was done. */
+	/* A pointer is NULL that must not be. Nothing was done. */
 	NIZWARF_NULL = 14,
-	/* The request asks for a call. Nothing was put. */
-	NIZWARF_ASKED = 15,
-	/* The call is none that was asked, or the room is another one; or that of nizwarf_serve_ops
-	 * overlaps the request. Nothing was put. */
-	NIZWARF_NOT_ASKED = 16,
+	/* The request was decoded, and its call must be made. Nothing was written to the reply buffer. */
+	NIZWARF_CALL = 15,
+	/* The call is not one that nizwarf_decode can decode, or the reply buffer has another size than the
+	 * call was decoded with; or the reply buffer of nizwarf_serve_ops overlaps the request. Nothing was
+	 * written to the reply buffer. */
+	NIZWARF_BAD_CALL = 16,
 };
 
-/* ---- To ask ------------------------------------------------------------------------------------ */
+/* ---- Decoding ---------------------------------------------------------------------------------- */
 
-/* What came of a request. */
+/* The result of nizwarf_decode and nizwarf_encode. Both set all fields. */
 typedef struct {
-	/* How long the reply is: the request is completed with that many bytes. 0 where there is
-	 * none. */
+	/* The length of the reply in bytes. The request must be completed with it. 0 means that there is no
+	 * reply. */
 	uint64_t len;
-	/* How many of these were put: all, or 16 of a READ that answered data. */
-	uint64_t put;
-	/* The options from now on: after an INIT those that its reply agreed on, the further ones too. */
+	/* How many of these bytes the library has written: all, or the first 16 for a READ without an error,
+	 * whose data the program has stored after them. */
+	uint64_t written;
+	/* The session's options from now on: after an INIT those that its reply has negotiated, extension
+	 * options included, and 0 after a DESTROY. */
 	uint64_t options;
-	/* A node of which a lookup is to be given back, since the client never got the entry of a
-	 * NIZWARF_ENTRY or a NIZWARF_CREATED. 0: none. */
-	uint64_t give_back;
-	/* How many items of a directory are in the reply, its first ones. With PLUS a lookup is to
-	 * be given back of each item after these, but of `.` and `..`, of node 0, and where
-	 * `error` isn't 0. */
-	uint64_t taken;
-	/* The number of the request that an INTERRUPT wants to end. 0: none. */
+	/* A node of which the program must drop one lookup, because its NIZWARF_REPLY_ENTRY or
+	 * NIZWARF_REPLY_CREATE did not reach the client. 0: none. */
+	uint64_t forget;
+	/* How many directory entries are in the reply: the first ones. With NIZWARF_PLUS the program must
+	 * drop one lookup of each entry after these, except of `.` and `..`, of node 0, and of entries whose
+	 * `error` is not 0. */
+	uint64_t entries;
+	/* The number (`unique`) of the request that an INTERRUPT names. 0: none. */
 	uint64_t interrupts;
-} nizwarf_told;
+} nizwarf_result;
 
 typedef struct nizwarf_call nizwarf_call;
 
-/* Rows that a file system may offer: calls that virtiofsd 1.13.2 does not tell, as it answers each with an
- * error or not at all. Where none is offered, every reply is virtiofsd's, byte for byte. What is offered may
- * differ from one ask to the next, but the kernel takes a call that was answered ENOSYS for one that is not
- * there, and asks no more. */
+/* Features: optional operations, which virtiofsd 1.13.2 does not pass to a file system, because it replies an
+ * error to each, or nothing. Without any, each reply is virtiofsd's, byte for byte. A program may pass
+ * different features with each request, but Linux remembers ENOSYS for most of these operations and does not
+ * send them again. */
 enum {
-	/* NIZWARF_GETLK, NIZWARF_SETLK and NIZWARF_SETLKW. They take POSIX_LOCKS (bit 1) or FLOCK_LOCKS (bit 10)
-	 * in the answer to INIT, or the kernel keeps locks itself. */
-	NIZWARF_OFFER_LOCKS = 1 << 0,
-	NIZWARF_OFFER_BMAP = 1 << 1,
-	NIZWARF_OFFER_IOCTL = 1 << 2,
-	NIZWARF_OFFER_POLL = 1 << 3,
-	NIZWARF_OFFER_STATX = 1 << 4,
-	NIZWARF_OFFER_COPY_64 = 1 << 5,
-	NIZWARF_OFFER_TMPFILE = 1 << 6,
-	NIZWARF_OFFER_NOTIFY_REPLY = 1 << 7,
-	/* Not a row: an INIT tells the further options that it offers, and takes a nizwarf_init_more. */
-	NIZWARF_OFFER_INIT = 1 << 8,
+	/* NIZWARF_GETLK, NIZWARF_SETLK and NIZWARF_SETLKW. The answer to INIT must have POSIX_LOCKS (bit 1)
+	 * or FLOCK_LOCKS (bit 10) too, because Linux otherwise keeps locks itself. */
+	NIZWARF_FEATURE_LOCKS = 1 << 0,
+	/* NIZWARF_BMAP, which Linux sends for block devices (fuseblk) only. */
+	NIZWARF_FEATURE_BMAP = 1 << 1,
+	/* NIZWARF_IOCTL. */
+	NIZWARF_FEATURE_IOCTL = 1 << 2,
+	/* NIZWARF_POLL. */
+	NIZWARF_FEATURE_POLL = 1 << 3,
+	/* NIZWARF_STATX. */
+	NIZWARF_FEATURE_STATX = 1 << 4,
+	/* NIZWARF_COPY_64. */
+	NIZWARF_FEATURE_COPY_64 = 1 << 5,
+	/* NIZWARF_TMPFILE. */
+	NIZWARF_FEATURE_TMPFILE = 1 << 6,
+	/* NIZWARF_NOTIFY_REPLY, the reply to nizwarf_notice_retrieve. */
+	NIZWARF_FEATURE_NOTIFY_REPLY = 1 << 7,
+	/* Not an operation: the call of INIT has the client's extension options, and its answer may have a
+	 * nizwarf_init_params. */
+	NIZWARF_FEATURE_INIT = 1 << 8,
 };
 
-/* Reads a request. NIZWARF_ASKED: it asks for `call`, and `told` says nothing; the slot has memory for any answer to
- * it, and keeps that up to its end. NIZWARF_OK: it is finished, and told->len bytes of the rooms are its reply. Others:
- * it is refused, and has none.
+/* Decodes a request of `request_count` parts. The reply buffer has `reply_count` parts. The request must not
+ * change during the call. `features` is 0, or a combination of NIZWARF_FEATURE_ constants for a program that
+ * serves these optional operations. A request of one of them is rejected with NIZWARF_DECODE_MESSAGE if its
+ * record is too short, or if fewer bytes follow than the record says.
  *
- * A slot that told a call, but of READ, lacks no memory for a request in up to four segments with no more room, unless it
- * is a BATCH_FORGET, makes a node under SECURITY_CTX, or has names, or a value, in two segments. */
-static inline int32_t nizwarf_ask(nizwarf_slot *slot, const nizwarf_session *session,
-				  const nizwarf_segment *request, size_t segments, const nizwarf_room *room,
-				  size_t rooms, nizwarf_call *call, nizwarf_told *told);
-
-/* The same of a file system that offers these rows: a request of one of them asks for its call. It is refused
- * (NIZWARF_DECODE_MESSAGE) where its record is cut short, or has no room for as many bytes as it says. */
-static inline int32_t nizwarf_ask_offered(nizwarf_slot *slot, const nizwarf_session *session, uint32_t offers,
-					  const nizwarf_segment *request, size_t segments,
-					  const nizwarf_room *room, size_t rooms, nizwarf_call *call,
-					  nizwarf_told *told);
+ * Returns NIZWARF_CALL if the file system must act: `call` is filled in, and the program must make it once
+ * and pass the answer to nizwarf_encode once. The fields of the result mean nothing then. Returns NIZWARF_OK
+ * if the reply is in the reply buffer, or none is due: its length is in the result. Any other code means that
+ * the request was rejected and has no reply.
+ *
+ * After NIZWARF_CALL the scratch memory suffices for any answer to this call, so nizwarf_encode does not run
+ * out of memory with it. It also suffices for later requests whose reply buffer is not larger, unless the
+ * call was a READ. Some requests may allocate more: those in more than four parts, those with a name or a
+ * value in two parts, BATCH_FORGET, and requests that create a node under SECURITY_CTX. */
+int32_t nizwarf_decode(nizwarf_scratch *scratch, const nizwarf_session *session, uint32_t features,
+		       const struct iovec *request, size_t request_count, const struct iovec *reply,
+		       size_t reply_count, nizwarf_call *call, nizwarf_result *result);
 
 /* ---- The call ---------------------------------------------------------------------------------- */
 
-/* Calls, which fields of a nizwarf_call each has, and in brackets the kind of its answer. A number
- * is that of the opcode, but RENAME2 is told as RENAME, and READDIRPLUS as READDIR. `node` is what
- * the request is about: the directory, where there is a name in one. All have `unique`, `options`,
- * `room`, `call` and `answer`, and the caller, but for INIT, DESTROY and those that are told
- * nothing. What isn't named is 0. Where a field is not what its name says, a function reads it that is. */
+/* Calls, with the fields of a nizwarf_call that each has, and in parentheses the kind of its answer. The
+ * numbers are the opcodes of linux/fuse.h, except that RENAME2 is decoded as NIZWARF_RENAME and READDIRPLUS
+ * as NIZWARF_READDIR. `node` is the file or directory that the request is about; the directory, if the call
+ * has a name in it. All calls have `unique`, `options`, `opcode`, `reply` and the size of the reply buffer;
+ * all have the caller (`uid`, `gid`, `pid`), except INIT, DESTROY and calls with no fields. Fields that are
+ * not listed are 0. A function that is listed after a field reads this field, because in this call the field
+ * has another meaning than its name. */
 enum {
-	/* node, name (ENTRY) */
+	/* node, name (REPLY_ENTRY) */
 	NIZWARF_LOOKUP = 1,
-	/* node, length: nizwarf_forget_lookups (QUIET) */
+	/* node, length: nizwarf_forget_lookups (REPLY_NONE) */
 	NIZWARF_FORGET = 2,
-	/* node, handle if HAS_HANDLE (ATTR) */
+	/* node, handle if HAS_HANDLE (REPLY_ATTR) */
 	NIZWARF_GETATTR = 3,
-	/* node, attr, flags: nizwarf_setattr_fields, handle if HAS_HANDLE (ATTR) */
+	/* node, attr, flags: nizwarf_setattr_fields, handle if HAS_HANDLE (REPLY_ATTR) */
 	NIZWARF_SETATTR = 4,
-	/* node (TEXT) */
+	/* node (REPLY_BYTES) */
 	NIZWARF_READLINK = 5,
-	/* node, name, other_name: nizwarf_symlink_text, extensions (ENTRY) */
+	/* node, name, other_name: nizwarf_symlink_text, extensions (REPLY_ENTRY) */
 	NIZWARF_SYMLINK = 6,
-	/* node, name, mode, rdev, umask, extensions (ENTRY) */
+	/* node, name, mode, rdev, umask, extensions (REPLY_ENTRY) */
 	NIZWARF_MKNOD = 8,
-	/* node, name, mode, umask, extensions (ENTRY) */
+	/* node, name, mode, umask, extensions (REPLY_ENTRY) */
 	NIZWARF_MKDIR = 9,
-	/* node, name (DONE) */
+	/* node, name (REPLY_STATUS) */
 	NIZWARF_UNLINK = 10,
 	NIZWARF_RMDIR = 11,
-	/* node, name, other_node and other_name: where it goes, flags: RENAME_NOREPLACE ..
-	 * (DONE) */
+	/* node, name, other_node and other_name: the new parent and name, flags: RENAME_NOREPLACE ..
+	 * (REPLY_STATUS) */
 	NIZWARF_RENAME = 12,
-	/* node: what gets a name, other_node: the directory that gets it, name (ENTRY) */
+	/* node: the node that gets a name, other_node: the directory of the new name, name (REPLY_ENTRY) */
 	NIZWARF_LINK = 13,
-	/* node, flags: O_RDONLY .., KILL_PRIV (OPENED) */
+	/* node, flags: O_RDONLY .., KILL_SUIDGID (REPLY_OPEN) */
 	NIZWARF_OPEN = 14,
-	/* node, handle, offset, size, length: nizwarf_read_room, flags, lock_owner if HAS_OWNER
-	 * (DATA) */
+	/* node, handle, offset, size, length: nizwarf_read_max, flags, lock_owner if HAS_OWNER
+	 * (REPLY_DATA) */
 	NIZWARF_READ = 15,
-	/* node, handle, offset, size, data: all after the record, of which the first `size` bytes
-	 * are to be written, flags, lock_owner if HAS_OWNER, DELAYED, KILL_PRIV (WRITTEN) */
+	/* node, handle, offset, size, data: all bytes after the record, of which the first `size` bytes must
+	 * be written, flags, lock_owner if HAS_OWNER, WRITE_CACHE, KILL_SUIDGID (REPLY_COUNT) */
 	NIZWARF_WRITE = 16,
-	/* node (STATISTICS) */
+	/* node (REPLY_STATFS) */
 	NIZWARF_STATFS = 17,
-	/* node, handle, flags, FLUSHES, FLOCK_RELEASE, lock_owner if HAS_OWNER (DONE) */
+	/* node, handle, flags, RELEASE_FLUSH, RELEASE_FLOCK_UNLOCK, lock_owner if HAS_OWNER (REPLY_STATUS) */
 	NIZWARF_RELEASE = 18,
-	/* node, handle, DATASYNC (DONE) */
+	/* node, handle, FSYNC_FDATASYNC (REPLY_STATUS) */
 	NIZWARF_FSYNC = 20,
-	/* node, name: that of an attribute, in these four, data: the value, flags: XATTR_CREATE ..,
-	 * more: nizwarf_setxattr_more_flags (DONE) */
+	/* node, name: the name of the attribute, data: its value, flags: XATTR_CREATE .., more:
+	 * nizwarf_setxattr_ext_flags (REPLY_STATUS) */
 	NIZWARF_SETXATTR = 21,
-	/* node, name, size: 0 asks for the length (TEXT_OR_COUNT) */
+	/* node, name: the name of the attribute, size: 0 requests the length only (REPLY_BYTES_OR_SIZE) */
 	NIZWARF_GETXATTR = 22,
-	/* node, size: 0 asks for the length (TEXT_OR_COUNT) */
+	/* node, size: 0 requests the length only (REPLY_BYTES_OR_SIZE) */
 	NIZWARF_LISTXATTR = 23,
-	/* node, name (DONE) */
+	/* node, name: the name of the attribute (REPLY_STATUS) */
 	NIZWARF_REMOVEXATTR = 24,
-	/* node, handle, lock_owner (DONE) */
+	/* node, handle, lock_owner (REPLY_STATUS) */
 	NIZWARF_FLUSH = 25,
-	/* length: nizwarf_init_offered, readahead; if INIT is offered, nizwarf_init_further, more:
-	 * nizwarf_init_takes_more (WANT) */
+	/* length: nizwarf_init_capable, readahead; with the feature INIT, nizwarf_init_ext_flags, more:
+	 * nizwarf_init_takes_params (REPLY_INIT) */
 	NIZWARF_INIT = 26,
-	/* node, flags (OPENED) */
+	/* node, flags (REPLY_OPEN) */
 	NIZWARF_OPENDIR = 27,
-	/* node, handle, offset: that of the last item before, 0 at the beginning, size: of all
-	 * records, PLUS (DIRECTORY) */
+	/* node, handle, offset: that of the entry returned last, or 0 for the beginning, size: of all records
+	 * together, PLUS (REPLY_DIRECTORY) */
 	NIZWARF_READDIR = 28,
-	/* node, handle, flags (DONE) */
+	/* node, handle, flags (REPLY_STATUS) */
 	NIZWARF_RELEASEDIR = 29,
-	/* node, handle, DATASYNC (DONE) */
+	/* node, handle, FSYNC_FDATASYNC (REPLY_STATUS) */
 	NIZWARF_FSYNCDIR = 30,
-	/* told nothing (FAULT_OR_SILENCE); if LOCKS are offered, node, handle, lock_owner, HAS_FLOCK, and the lock:
-	 * nizwarf_lock_asked. SETLKW waits until it has its lock (GETLK TEXT: a nizwarf_lock, the others DONE) */
+	/* no fields (REPLY_ERROR_OR_NONE); with the feature LOCKS, node, handle, lock_owner, LK_FLOCK, and
+	 * the lock: nizwarf_lock_of. SETLKW waits for its lock (GETLK REPLY_BYTES: a nizwarf_lock, the others
+	 * REPLY_STATUS) */
 	NIZWARF_GETLK = 31,
 	NIZWARF_SETLK = 32,
 	NIZWARF_SETLKW = 33,
-	/* node, more: nizwarf_access_mask (DONE) */
+	/* node, more: nizwarf_access_mask (REPLY_STATUS) */
 	NIZWARF_ACCESS = 34,
-	/* node, name, mode, flags, umask, KILL_PRIV, extensions (CREATED) */
+	/* node, name, mode, flags, umask, KILL_SUIDGID, extensions (REPLY_CREATE) */
 	NIZWARF_CREATE = 35,
-	/* told nothing (FAULT_OR_SILENCE); if BMAP is offered, node, offset: the number of a block, size: of a
-	 * block (OFFSET: the block of the device) */
+	/* no fields (REPLY_ERROR_OR_NONE); with the feature BMAP, node, offset: the number of a block, size:
+	 * of a block (REPLY_OFFSET: the block of the device) */
 	NIZWARF_BMAP = 37,
-	/* told nothing: the client goes, and holds no lookup from then on (QUIET) */
+	/* no fields: the session ends, and all lookups are dropped (REPLY_NONE) */
 	NIZWARF_DESTROY = 38,
-	/* told nothing (FAULT_OR_SILENCE); if IOCTL is offered, node, handle, flags: FUSE_IOCTL_COMPAT .., more:
-	 * nizwarf_ioctl_command, offset: nizwarf_ioctl_argument, data: what is handed in, size: how many bytes may
-	 * be handed out (TEXT: a nizwarf_ioctl, and then what is handed out) */
+	/* no fields (REPLY_ERROR_OR_NONE); with the feature IOCTL, node, handle, flags: FUSE_IOCTL_COMPAT ..,
+	 * more: nizwarf_ioctl_command, offset: nizwarf_ioctl_argument, data: the input, size: the most bytes
+	 * of output (REPLY_BYTES: a nizwarf_ioctl, followed by the output) */
 	NIZWARF_IOCTL = 39,
-	/* told nothing (FAULT_OR_SILENCE); if POLL is offered, node, handle, offset: the number for a notice,
-	 * flags: FUSE_POLL_SCHEDULE_NOTIFY, more: nizwarf_poll_events (WRITTEN: those that are there) */
+	/* no fields (REPLY_ERROR_OR_NONE); with the feature POLL, node, handle, offset: the number for a
+	 * notice, flags: FUSE_POLL_SCHEDULE_NOTIFY, more: nizwarf_poll_events (REPLY_COUNT: the events that
+	 * are ready) */
 	NIZWARF_POLL = 40,
-	/* told nothing (FAULT_OR_SILENCE); if NOTIFY_REPLY is offered, unique: that of the notice, node, offset,
-	 * size, data (QUIET) */
+	/* no fields (REPLY_ERROR_OR_NONE); with the feature NOTIFY_REPLY, unique: that of the notice, node,
+	 * offset, size, data (REPLY_NONE) */
 	NIZWARF_NOTIFY_REPLY = 41,
-	/* length: nizwarf_batch_forget_pairs, data: of each 8 bytes the node and 8 how many lookups
-	 * (QUIET) */
+	/* length: nizwarf_batch_forget_pairs, data: pairs of 16 bytes, 8 for the node and 8 for the number of
+	 * its lookups (REPLY_NONE) */
 	NIZWARF_BATCH_FORGET = 42,
-	/* node, handle, mode, offset, length (DONE) */
+	/* node, handle, mode, offset, length (REPLY_STATUS) */
 	NIZWARF_FALLOCATE = 43,
-	/* node, handle, offset, more: nizwarf_lseek_whence (OFFSET) */
+	/* node, handle, offset, more: nizwarf_lseek_whence (REPLY_OFFSET) */
 	NIZWARF_LSEEK = 46,
-	/* node, handle, offset, other_node, other_handle, other_offset: to where, length,
-	 * lock_owner: nizwarf_copy_flags (WRITTEN) */
+	/* node, handle, offset, other_node, other_handle, other_offset: the destination, length, lock_owner:
+	 * nizwarf_copy_flags (REPLY_COUNT) */
 	NIZWARF_COPY = 47,
-	/* node (DONE) */
+	/* node (REPLY_STATUS) */
 	NIZWARF_SYNCFS = 50,
-	/* told nothing (FAULT); if TMPFILE is offered, as a CREATE: the file gets no name, and `name` is of no use
-	 * (CREATED) */
+	/* no fields (REPLY_ERROR); with the feature TMPFILE, as CREATE, but the file has no name and `name`
+	 * must be ignored (REPLY_CREATE) */
 	NIZWARF_TMPFILE = 51,
-	/* If STATX is offered: node, handle if HAS_HANDLE, flags: those of statx(2), more: nizwarf_statx_mask
-	 * (TEXT: a nizwarf_statx) */
+	/* with the feature STATX, node, handle if HAS_HANDLE, flags: those of statx(2), more:
+	 * nizwarf_statx_mask (REPLY_BYTES: a nizwarf_statx) */
 	NIZWARF_STATX = 52,
-	/* If COPY_64 is offered: as COPY, but for the answer (OFFSET: how many bytes) */
+	/* with the feature COPY_64, as COPY, with another answer (REPLY_OFFSET: the number of bytes) */
 	NIZWARF_COPY_64 = 53,
 };
 
-/* Bits of `has`. Extensions are HAS_CONTEXT and HAS_GROUP with their fields. */
+/* Bits of `has`. The extensions of a call that creates a node are HAS_CONTEXT and HAS_GROUP with their
+ * fields. */
 enum {
-	/* `handle` is one. */
+	/* `handle` is set: the request names an open file. */
 	NIZWARF_HAS_HANDLE = 1 << 0,
-	/* `lock_owner` is one. */
+	/* `lock_owner` is set. */
 	NIZWARF_HAS_OWNER = 1 << 1,
-	/* The new node gets a security attribute: its name is `context_name`, its value
-	 * `context`. */
+	/* The new node must get a security attribute, atomically: `context_name` is its name, `context` its
+	 * value. */
 	NIZWARF_HAS_CONTEXT = 1 << 2,
-	/* `group` is a further group of the caller. */
+	/* `group` is a supplementary group of the caller, which the new node may inherit. */
 	NIZWARF_HAS_GROUP = 1 << 3,
-	/* The file loses its set-user-ID and set-group-ID bits. */
-	NIZWARF_KILL_PRIV = 1 << 4,
-	/* A write from the kernel's cache, perhaps of another caller's data. */
-	NIZWARF_DELAYED = 1 << 5,
-	/* The data are to be synchronised, and not what is said of the file. */
-	NIZWARF_DATASYNC = 1 << 6,
-	/* As a FLUSH does. */
-	NIZWARF_FLUSHES = 1 << 7,
-	/* Locks of flock(2) go. */
-	NIZWARF_FLOCK_RELEASE = 1 << 8,
-	/* Each item has an entry. */
+	/* The set-user-ID and set-group-ID bits of the file must be cleared. */
+	NIZWARF_KILL_SUIDGID = 1 << 4,
+	/* The data come from the kernel's page cache (FUSE_WRITE_CACHE), so the caller need not be the
+	 * process that wrote them. */
+	NIZWARF_WRITE_CACHE = 1 << 5,
+	/* Only the data must be synchronised, not the metadata (FUSE_FSYNC_FDATASYNC). */
+	NIZWARF_FSYNC_FDATASYNC = 1 << 6,
+	/* The release must do the work of a FLUSH too (FUSE_RELEASE_FLUSH). */
+	NIZWARF_RELEASE_FLUSH = 1 << 7,
+	/* The owner's lock of flock(2) must be released (FUSE_RELEASE_FLOCK_UNLOCK). */
+	NIZWARF_RELEASE_FLOCK_UNLOCK = 1 << 8,
+	/* Each directory entry has attributes and counts a lookup (READDIRPLUS). */
 	NIZWARF_PLUS = 1 << 9,
-	/* The lock is one of flock(2), and else of fcntl(2). */
-	NIZWARF_HAS_FLOCK = 1 << 10,
+	/* The lock is one of flock(2); without this bit it is one of fcntl(2). */
+	NIZWARF_LK_FLOCK = 1 << 10,
 };
 
-/* Bytes of a request: names, values and data are told so. `at` counts from the first byte of its
- * header, over its segments as if they were one. A name has no byte 0, and one follows it, so in a
- * request of one segment it is a string of C where it lies. What is not there is { 0, 0 }. The data
- * of a WRITE are not looked at. */
+/* A range of bytes of a request: a name, a value or data. `at` counts from the first byte of the header, over
+ * the parts of the request as if they were contiguous. A name has no NUL in it and one after it, so in a
+ * request of one part it is a C string. A range that the call does not have is { 0, 0 }. The library does not
+ * look at the data of a WRITE. */
 typedef struct {
 	uint64_t at;
 	uint64_t len;
 } nizwarf_range;
 
-/* The record of a SETATTR, as fuse_setattr_in has it. */
+/* The record of a SETATTR, laid out as fuse_setattr_in of linux/fuse.h. nizwarf_setattr_fields says which of
+ * the fields are valid; the others are undefined. Times are seconds and nanoseconds since 1970. */
 typedef struct {
 	uint32_t valid, padding;
 	uint64_t fh, size, lock_owner, atime, mtime, ctime;
 	uint32_t atimensec, mtimensec, ctimensec, mode, unused4, uid, gid, unused5;
 } nizwarf_setattr;
 
-/* A call. `unique` is the number of the request, `options` are those of the session when it was
- * asked, `room` is how many bytes of room it has in all. */
+/* A decoded call. It may be copied and kept, because it has no pointers: nizwarf_encode needs it, but not the
+ * request. Its fields must not be changed, except by nizwarf_init_keep. A field that the call does not have
+ * is 0.
+ *
+ *   - `unique` is the number of the request, which an INTERRUPT may name. `options` are those of the session
+ *     that the request was decoded with. `reply_size` is the size of the reply buffer in bytes.
+ *   - `node` is the file or directory that the request is about, `handle` the open file (`fh`), `offset` the
+ *     place in it. `length`, `size`, `flags` and `more` depend on the call. `lock_owner` identifies the owner
+ *     of locks.
+ *   - `other_node` and `other_name` are the new parent and name of a RENAME, or for a LINK the directory of
+ *     the new name; `other_node`, `other_handle` and `other_offset` are the destination of a COPY.
+ *   - `name`, `other_name`, `data`, `context_name` and `context` are ranges of the request. `attr` is the
+ *     record of a SETATTR.
+ *   - `opcode` is the number of the call, NIZWARF_LOOKUP and others; `reply` the kind of its answer; `has`
+ *     bits that say which optional fields are set.
+ *   - `uid`, `gid` and `pid` are the caller, `group` a supplementary group. `mode`, `umask` and `rdev` are
+ *     those of a new node. `readahead` is the most that the client of an INIT reads ahead, in bytes. */
 struct nizwarf_call {
-	uint64_t unique, options, room;
+	uint64_t unique, options, reply_size;
 	uint64_t node, handle, offset, length, lock_owner;
 	uint64_t other_node, other_handle, other_offset;
 	nizwarf_range name, other_name, data, context_name, context;
 	nizwarf_setattr attr;
-	uint32_t call, answer, has;
+	uint32_t opcode, reply, has;
 	uint32_t uid, gid;
 	int32_t pid;
 	uint32_t flags, mode, umask, rdev, size, more, group, readahead;
 };
 
-/* What a field is in the call of this name. (They are functions and no unnamed unions, for whose members neither
- * C99 nor cgo has names.) */
+/* Accessors for fields that have another meaning than their name. Each is for the call in its own name. (They
+ * are functions, and not unnamed unions, because neither C99 nor cgo has names for the members of those.) */
 
-/* How many lookups of the node are given back. */
+/* Returns how many lookups of the node must be dropped. */
 static inline uint64_t nizwarf_forget_lookups(const nizwarf_call *call)
 {
 	return call->length;
 }
 
-/* How many pairs `data` has. */
+/* Returns how many pairs `data` has. */
 static inline uint64_t nizwarf_batch_forget_pairs(const nizwarf_call *call)
 {
 	return call->length;
 }
 
-/* Which fields of `attr` to set: FATTR_MODE .. */
+/* Returns which fields of `attr` must be set: FATTR_MODE and others, without FATTR_FH and FATTR_LOCKOWNER. */
 static inline uint32_t nizwarf_setattr_fields(const nizwarf_call *call)
 {
 	return call->flags;
 }
 
-/* The text of the link. */
+/* Returns the target of the link. */
 static inline nizwarf_range nizwarf_symlink_text(const nizwarf_call *call)
 {
 	return call->other_name;
 }
 
-/* How many bytes of data there is room for. */
-static inline uint64_t nizwarf_read_room(const nizwarf_call *call)
+/* Returns how many bytes of data the reply buffer can hold after the header. `size` may be larger. */
+static inline uint64_t nizwarf_read_max(const nizwarf_call *call)
 {
 	return call->length;
 }
 
-/* Further flags: bit 0 clears the set-group-ID bit. */
-static inline uint32_t nizwarf_setxattr_more_flags(const nizwarf_call *call)
+/* Returns the extension flags: bit 0 requests that the set-group-ID bit is cleared
+ * (FUSE_SETXATTR_ACL_KILL_SGID). */
+static inline uint32_t nizwarf_setxattr_ext_flags(const nizwarf_call *call)
 {
 	return call->more;
 }
 
-/* What is to be allowed: R_OK .. */
+/* Returns the access to be checked: a combination of R_OK, W_OK and X_OK, or F_OK. */
 static inline uint32_t nizwarf_access_mask(const nizwarf_call *call)
 {
 	return call->more;
 }
 
-/* SEEK_DATA or SEEK_HOLE. */
+/* Returns SEEK_DATA or SEEK_HOLE. */
 static inline uint32_t nizwarf_lseek_whence(const nizwarf_call *call)
 {
 	return call->more;
 }
 
-/* The flags of copy_file_range(2). */
+/* Returns the flags of copy_file_range(2). */
 static inline uint64_t nizwarf_copy_flags(const nizwarf_call *call)
 {
 	return call->lock_owner;
 }
 
-/* The options that are offered. */
-static inline uint64_t nizwarf_init_offered(const nizwarf_call *call)
+/* Returns the options that the client supports, without its extension options. */
+static inline uint64_t nizwarf_init_capable(const nizwarf_call *call)
 {
 	return call->length;
 }
 
-/* A lock, as fuse_file_lock has it: its first and its last byte, F_RDLCK, F_WRLCK or F_UNLCK, and the process that
- * has it. */
+/* A lock, laid out as fuse_file_lock of linux/fuse.h. `start` and `end` are its first and its last byte; a
+ * lock to the end of the file has an `end` of INT64_MAX. `type` is F_RDLCK, F_WRLCK or F_UNLCK. `pid` is the
+ * process that has it. */
 typedef struct {
 	uint64_t start, end;
 	uint32_t type, pid;
 } nizwarf_lock;
 
-/* The lock that is asked for. */
-static inline nizwarf_lock nizwarf_lock_asked(const nizwarf_call *call)
-{
-	const nizwarf_lock lock = { call->offset, call->other_offset, call->flags, call->more };
+/* Returns the requested lock. */
+nizwarf_lock nizwarf_lock_of(const nizwarf_call *call);
 
-	return lock;
-}
-
-/* The second argument of ioctl(2). */
+/* Returns the second argument of ioctl(2), the request. */
 static inline uint32_t nizwarf_ioctl_command(const nizwarf_call *call)
 {
 	return call->more;
 }
 
-/* The third one. */
+/* Returns the third argument of ioctl(2), which is an address in the caller's memory or a number. */
 static inline uint64_t nizwarf_ioctl_argument(const nizwarf_call *call)
 {
 	return call->offset;
 }
 
-/* POLLIN .. */
+/* Returns the events that the caller waits for: POLLIN and others of poll(2). */
 static inline uint32_t nizwarf_poll_events(const nizwarf_call *call)
 {
 	return call->more;
 }
 
-/* The number by which a notice wakes who polled. */
+/* Returns the number that nizwarf_notice_poll takes to wake the callers that wait for the file. */
 static inline uint64_t nizwarf_poll_number(const nizwarf_call *call)
 {
 	return call->offset;
 }
 
-/* STATX_SIZE .. */
+/* Returns the requested fields: STATX_SIZE and others of statx(2). */
 static inline uint32_t nizwarf_statx_mask(const nizwarf_call *call)
 {
 	return call->more;
 }
 
-/* The further options that are offered: bits that virtiofsd 1.13.2 does not know. */
-static inline uint64_t nizwarf_init_further(const nizwarf_call *call)
+/* Returns the extension options that the client supports: bits that virtiofsd 1.13.2 does not know. */
+static inline uint64_t nizwarf_init_ext_flags(const nizwarf_call *call)
 {
 	return call->other_offset;
 }
 
-/* Not 0 if NIZWARF_OFFER_INIT was among the offers when the INIT was decoded: then a `text` of the answer, as long as
- * a nizwarf_init_more, must be one. Otherwise no text of the answer is read, so that the reply is virtiofsd's. */
-static inline uint32_t nizwarf_init_takes_more(const nizwarf_call *call)
+/* Returns whether NIZWARF_FEATURE_INIT was among the features that the INIT was decoded with. If so, a `text`
+ * of the answer that is as long as a nizwarf_init_params must be one. If not, `text` of the answer is
+ * ignored, so that the reply is virtiofsd's. */
+static inline uint32_t nizwarf_init_takes_params(const nizwarf_call *call)
 {
 	return call->more;
 }
 
-/* Takes all but these out of the options that are offered, before an INIT is answered: what isn't offered isn't
- * agreed on. So it is with ATOMIC_O_TRUNC, without which Linux cuts by SETATTR what it opens with O_TRUNC; and
- * with ALLOW_IDMAP (bit 40), which Linux takes only from a mount with default_permissions. It refuses everything
- * else then. */
+/* Restricts the options that the client supports to these, before an INIT is answered, because the library
+ * negotiates some options even if the answer does not have them: ATOMIC_O_TRUNC, which requires that OPEN
+ * truncates the file, and ALLOW_IDMAP (bit 40), which requires a mount with default_permissions; without that
+ * Linux fails all later requests. A program that does not meet these requirements must remove the option. */
 static inline void nizwarf_init_keep(nizwarf_call *call, uint64_t options)
 {
 	call->length &= options;
@@ -531,68 +578,77 @@ static inline void nizwarf_init_keep(nizwarf_call *call, uint64_t options)
 
 /* ---- The answer -------------------------------------------------------------------------------- */
 
-/* Kinds of answers: which fields of a nizwarf_answer are looked at where its `error` is 0. */
+/* Kinds of answers, with the fields of a nizwarf_answer that are read if its `error` is 0. With an `error` no
+ * other field is read, and the reply has no data. */
 enum {
-	/* None, and `error` neither: there is no reply. */
-	NIZWARF_QUIET = 0,
+	/* None, not even `error`: there is no reply. */
+	NIZWARF_REPLY_NONE = 0,
 	/* None. */
-	NIZWARF_DONE = 1,
-	/* None. It is a fault, EIO where `error` is 0, but of a NOTIFY_REPLY: that has no reply then,
-	 * and a kernel waits for none. */
-	NIZWARF_FAULT_OR_SILENCE = 2,
-	/* `count`: how many bytes were put after the first 16 of the room. At most `size`, and what
-	 * nizwarf_read_room says. */
-	NIZWARF_DATA = 3,
-	/* `count`: nizwarf_answer_options. */
-	NIZWARF_WANT = 4,
+	NIZWARF_REPLY_STATUS = 1,
+	/* None. An `error` must be set: 0 is replied as EIO. Only for NIZWARF_NOTIFY_REPLY 0 means that there
+	 * is no reply, and Linux waits for none. */
+	NIZWARF_REPLY_ERROR_OR_NONE = 2,
+	/* `count`: how many bytes the program has stored in the reply buffer, after its first 16. It must not
+	 * exceed `size`, nor the result of nizwarf_read_max. */
+	NIZWARF_REPLY_DATA = 3,
+	/* `count`: set by nizwarf_answer_options. With the feature INIT also `text`: a nizwarf_init_params. */
+	NIZWARF_REPLY_INIT = 4,
 	/* `entry` */
-	NIZWARF_ENTRY = 5,
-	/* Of `entry` the attributes, and how long they hold. */
-	NIZWARF_ATTR = 6,
-	/* `has_handle`, `handle`, `open_flags`, `count`: nizwarf_answer_backing */
-	NIZWARF_OPENED = 7,
-	/* `entry`, and the same */
-	NIZWARF_CREATED = 8,
+	NIZWARF_REPLY_ENTRY = 5,
+	/* Of `entry` only the attributes, and how long they are valid. */
+	NIZWARF_REPLY_ATTR = 6,
+	/* `has_handle`, `handle`, `open_flags`, `count`: set by nizwarf_answer_backing. */
+	NIZWARF_REPLY_OPEN = 7,
+	/* `entry`, and all of NIZWARF_REPLY_OPEN. */
+	NIZWARF_REPLY_CREATE = 8,
 	/* `statfs` */
-	NIZWARF_STATISTICS = 9,
+	NIZWARF_REPLY_STATFS = 9,
 	/* `text` */
-	NIZWARF_TEXT = 10,
-	/* `text`, or where `has_count` isn't 0 `count`: how long it is. */
-	NIZWARF_TEXT_OR_COUNT = 11,
-	/* `count`: nizwarf_answer_offset. */
-	NIZWARF_OFFSET = 12,
-	/* `count`: how many bytes. */
-	NIZWARF_WRITTEN = 13,
+	NIZWARF_REPLY_BYTES = 10,
+	/* `text`; or `count`, the length, if `has_count` is not 0. */
+	NIZWARF_REPLY_BYTES_OR_SIZE = 11,
+	/* `count`: set by nizwarf_answer_offset. */
+	NIZWARF_REPLY_OFFSET = 12,
+	/* `count`: the number of bytes, or the events of a POLL. */
+	NIZWARF_REPLY_COUNT = 13,
 	/* `items` */
-	NIZWARF_DIRECTORY = 14,
-	/* None: it is a fault, EIO where `error` is 0. */
-	NIZWARF_FAULT = 15,
+	NIZWARF_REPLY_DIRECTORY = 14,
+	/* None. An `error` must be set: 0 is replied as EIO. */
+	NIZWARF_REPLY_ERROR = 15,
 };
 
-/* Attributes, as fuse_attr has them. */
+/* Attributes, laid out as fuse_attr of linux/fuse.h, which have the meaning of stat(2). `ino` is the inode
+ * number that programs see, `size` is in bytes, `blocks` are of 512 bytes, times are seconds and nanoseconds
+ * since 1970, and `mode` has the file type and the permissions. `blksize` is the preferred size of reads and
+ * writes; 0 leaves the default. `flags` are FUSE_ATTR_SUBMOUNT and FUSE_ATTR_DAX. */
 typedef struct {
 	uint64_t ino, size, blocks, atime, mtime, ctime;
 	uint32_t atimensec, mtimensec, ctimensec, mode, nlink, uid, gid, rdev, blksize, flags;
 } nizwarf_attr;
 
-/* An entry, as fuse_entry_out has it: the client holds a lookup more of its node, up to a FORGET.
- * Node 0 says that there is no such name, for so long, and counts no lookup. Nanoseconds are at
- * most 999999999: more count as that. */
+/* The result of a lookup or of a creation, laid out like fuse_entry_out of linux/fuse.h. The client counts
+ * one lookup of `node` when it gets the entry, and drops it by a FORGET. Node 0 means that the name does not
+ * exist; that is valid for the time of the entry, and counts no lookup. The pair of `node` and `generation`
+ * must be unique for as long as the file system exists. `entry_seconds` and `attr_seconds`, with their
+ * nanoseconds, say how long the client may use the name and the attributes. Nanoseconds above 999999999 count
+ * as 999999999. */
 typedef struct {
 	uint64_t node, generation, entry_seconds, attr_seconds;
 	uint32_t entry_nanoseconds, attr_nanoseconds;
 	nizwarf_attr attr;
 } nizwarf_entry;
 
-/* What a file system holds, as statvfs(3) has it. */
+/* Statistics of a file system. The fields have the meaning of those of statvfs(3) with the prefix f_. */
 typedef struct {
 	uint64_t bsize, frsize, blocks, bfree, bavail, files, ffree, namemax;
 } nizwarf_statfs;
 
-/* An item of a directory: `ino` and `type` (DT_REG ..) are what readdir(3) tells, `offset` is that
- * of a reading that goes on after it, and isn't 0: that begins anew. `name` ends at its only byte 0,
- * which `name_size` counts, though no range does: where an item has another name the answer is EIO.
- * With PLUS each but `.` and `..` has an entry, or the `error` of its lookup. */
+/* A directory entry. `ino` and `type` (DT_REG and others of dirent.h) are what readdir(3) returns. `offset`
+ * is the position after the entry, from which the client continues; it must not be 0, which is the beginning.
+ * `name` must end in its only NUL, which `name_size` counts, although no range counts it; an entry with any
+ * other name is replied as EIO. With NIZWARF_PLUS each entry but `.` and `..` must have an `entry`, which
+ * counts one lookup, or the `error` of its lookup, at most NIZWARF_MAX_ERRNO. The listing then ends before
+ * this entry; if it is the first one, the listing fails with this error. */
 typedef struct {
 	uint64_t ino, offset;
 	const uint8_t *name;
@@ -600,14 +656,23 @@ typedef struct {
 	nizwarf_entry entry;
 	uint32_t type;
 	int32_t error;
-} nizwarf_item;
+} nizwarf_dirent;
 
-/* An answer. `error` is 0; or the number of an error, from 1 to 511, as Linux takes them; any other is
- * replied as EIO. What can't be is replied as EIO too: a `count` above what was asked for by a READ,
- * or of 2^32 and more where the reply has 32 bits. A link is for you to keep within the 4095 bytes
- * that Linux takes, an attribute within the `size` that is asked for. A text of 2^32 - 16 bytes or more
- * is replied as ERANGE; one of a GETLK, a STATX or an IOCTL that is no such record as EIO. Bits of
- * `open_flags`, and of options, that the protocol doesn't have are left out. */
+/* The answer to a call. It must be initialised with NIZWARF_ANSWER_INIT.
+ *
+ * `error` is 0 or an error number from 1 to 511, the range that Linux accepts; any other number is replied as
+ * EIO. So is a `count` of a READ that is larger than requested, a `count` of 2^32 or more if the reply has 32
+ * bits for it, and a `text` of a GETLK, a STATX or an IOCTL that is not such a record. A `text` of 2^32 - 16
+ * bytes or more is replied as ERANGE. The library does not check two limits, which the program must keep: a
+ * link has at most 4095 bytes, the most that Linux accepts, and an attribute at most the requested `size`.
+ * Bits of `open_flags` and of options that the protocol does not have are removed.
+ *
+ *   - `handle` is passed with later requests for the open file, if `has_handle` is not 0. `open_flags` are
+ *     FOPEN_KEEP_CACHE and others.
+ *   - `text` is `text_len` bytes: the target of a link, the value of an attribute, a list of names, or a
+ *     record. It is read during nizwarf_encode only.
+ *   - `items` is an array of `items_len` directory entries, read during nizwarf_encode only.
+ *   - `count`, `has_count`, `entry` and `statfs` are as the kind of the answer says. */
 typedef struct {
 	int32_t error;
 	uint32_t has_handle;
@@ -615,31 +680,33 @@ typedef struct {
 	uint32_t open_flags, has_count;
 	nizwarf_entry entry;
 	nizwarf_statfs statfs;
-	/* NULL where there is none. */
+	/* May be NULL if `text_len` is 0; so may `items` if `items_len` is 0. */
 	const uint8_t *text;
 	size_t text_len;
-	const nizwarf_item *items;
+	const nizwarf_dirent *items;
 	size_t items_len;
 } nizwarf_answer;
 
-/* What the answer to an IOCTL begins with, as fuse_ioctl_out has it: what ioctl(2) returns; and with
- * FUSE_IOCTL_RETRY in `flags`, how many pairs of an address and a length follow, in place of what is handed out,
- * of what is to be handed in and out when it is asked again: at most 256, FUSE_IOCTL_MAX_IOV, of both together.
- * Linux takes that of CUSE alone. */
+/* The record that the answer to an IOCTL begins with, laid out as fuse_ioctl_out of linux/fuse.h. `result` is
+ * the return value of ioctl(2). With FUSE_IOCTL_RETRY in `flags`, `in_iovs` and `out_iovs` pairs of an
+ * address and a length (8 bytes each) follow in place of the output, at most 256 in all (FUSE_IOCTL_MAX_IOV):
+ * the client sends the request again with the input that these describe. Linux accepts that from CUSE
+ * only. */
 typedef struct {
 	int32_t result;
 	uint32_t flags, in_iovs, out_iovs;
 } nizwarf_ioctl;
 
-/* A time of a nizwarf_statx. */
+/* A time of a nizwarf_statx, since 1970. `reserved` must be 0. */
 typedef struct {
 	int64_t tv_sec;
 	uint32_t tv_nsec;
 	int32_t reserved;
 } nizwarf_sx_time;
 
-/* The answer to a STATX, as fuse_statx_out has it: how long it holds, and what statx(2) tells, of which `mask` says
- * what is there. */
+/* The answer to a STATX, laid out as fuse_statx_out of linux/fuse.h: how long the attributes are valid, and
+ * the fields of statx(2) without their prefix. `mask` must say which of them are set. The spare fields must
+ * be 0. */
 typedef struct {
 	uint64_t attr_seconds;
 	uint32_t attr_nanoseconds, out_flags;
@@ -654,195 +721,211 @@ typedef struct {
 	uint64_t spare2[14];
 } nizwarf_statx;
 
-/* The last number of an error that Linux takes. */
-enum { NIZWARF_LAST_ERROR = 511 };
+/* The largest error number that Linux accepts. */
+enum { NIZWARF_MAX_ERRNO = 511 };
 
-/* An answer begins as this, in all fields, which is EIO: set `error` to 0 when you have answered. So a call that a file
- * system forgets to answer fails, and does not succeed with attributes of zeros. */
-#define NIZWARF_NO_ANSWER                                                                                    \
+/* The initial value of an answer. Its `error` is -1, which is replied as EIO, so that a call which the
+ * program forgets to answer fails, instead of succeeding with attributes of zeros. So `error` must be set to
+ * 0 or to an error number. */
+#define NIZWARF_ANSWER_INIT                                                                                  \
 	{                                                                                                    \
 		-1, 0, 0, 0, 0, 0, { 0, 0, 0, 0, 0, 0, { 0, 0, 0, 0, 0, 0, 0, 0, 0, 0, 0, 0, 0, 0, 0, 0 } }, \
 			{ 0, 0, 0, 0, 0, 0, 0, 0 }, 0, 0, 0, 0                                               \
 	}
 
-/* Answers an INIT by the options that are wanted of those offered. */
+/* Sets the options that the file system wants, for the answer to an INIT. Options that the client does not
+ * support are ignored. */
 static inline void nizwarf_answer_options(nizwarf_answer *answer, uint64_t options)
 {
 	answer->count = options;
 }
 
+/* The option FUSE_PASSTHROUGH of INIT, which older headers of Linux lack. */
 #define NIZWARF_PASSTHROUGH (UINT64_C(1) << 37)
 
-/* Answers an OPEN or a CREATE by a file that the client reads and writes by itself, of this number, which
- * FUSE_DEV_IOC_BACKING_OPEN gave. Without PASSTHROUGH in the session's options it is not looked at. */
+/* Lets the client read and write a file directly, for the answer to an OPEN or a CREATE: `backing_id` is a
+ * number that ioctl(2) with FUSE_DEV_IOC_BACKING_OPEN on /dev/fuse has returned. It is ignored unless the
+ * session's options have NIZWARF_PASSTHROUGH. */
 static inline void nizwarf_answer_backing(nizwarf_answer *answer, uint32_t backing_id)
 {
 	answer->count = backing_id;
 }
 
-/* Answers an LSEEK by a place in the file. */
+/* Sets the offset of the answer to an LSEEK, the block of a BMAP, or the number of bytes of a COPY_64. */
 static inline void nizwarf_answer_offset(nizwarf_answer *answer, uint64_t offset)
 {
 	answer->count = offset;
 }
 
-/* What an INIT may agree on besides its options, if INIT is offered: the `text` of its answer, of this length. Bits of
- * `want` are those of nizwarf_init_further: PASSTHROUGH (37) with the most file systems over one another,
- * NO_EXPORT_SUPPORT (38), HAS_RESEND (39), OVER_IO_URING (41), REQUEST_TIMEOUT (42) with that many seconds. Of the other
- * fields 0 leaves what virtiofsd says; the first two only make that less, max_write no less than 4096 bytes. */
+/* Further parameters of a session, as `text` of the answer to an INIT with the feature INIT. `text_len` must
+ * be the size of this struct.
+ *
+ * `want` has extension options (nizwarf_init_ext_flags): PASSTHROUGH (bit 37), for which `max_stack_depth` is
+ * the most file systems on top of one another, NO_EXPORT_SUPPORT (38), HAS_RESEND (39), OVER_IO_URING (41),
+ * and REQUEST_TIMEOUT (42), for which `request_timeout` is in seconds, at most 65535. Bits that the client
+ * does not support are ignored.
+ *
+ * For each other field 0 leaves the default, which is virtiofsd's. `max_readahead` and `max_write`, in bytes,
+ * can only make the default smaller; `max_write` is at least 4096. `max_background` and
+ * `congestion_threshold` limit the requests that the client has in flight in the background. `padding` must
+ * be 0. */
 typedef struct {
 	uint64_t want;
 	uint32_t max_readahead, max_write;
-	/* In nanoseconds, how exact times of files are: a power of 10, up to 1000000000. */
+	/* The granularity of file times in nanoseconds: a power of 10, up to 1000000000. */
 	uint32_t time_gran;
 	uint32_t max_stack_depth, request_timeout;
 	uint16_t max_background, congestion_threshold;
 	uint64_t padding;
-} nizwarf_init_more;
+} nizwarf_init_params;
 
-/* How many bytes an item takes of the `size` of a READDIR. One who adds these up knows when to
- * stop, and has no entry to give back. */
-static inline size_t nizwarf_record_size(size_t name_size, int plus)
-{
-	return (plus ? 128 : 0) + ((24 + name_size - 1 + 7) & ~(size_t)7);
-}
+/* Returns how many bytes a directory entry takes of the `size` of a READDIR: `name_size` counts the NUL, and
+ * `plus` says whether the call has NIZWARF_PLUS. A program that adds these up can stop before the reply is
+ * full, and then has no lookup to drop. */
+size_t nizwarf_record_size(size_t name_size, int plus);
 
-/* ---- To reply ---------------------------------------------------------------------------------- */
+/* ---- Encoding ---------------------------------------------------------------------------------- */
 
-/* Answers a call. NIZWARF_OK: told->len bytes of the rooms are the reply. NIZWARF_ENCODE_MESSAGE:
- * it does not fit, and there is none. NIZWARF_OUT_OF_MEMORY, by another slot than the call was asked with: there is
- * none. You may answer once more, with the same arguments, and give nothing back before; or leave it, and give back
- * what is told. Others are faults of yours, and `told` says nothing. */
-static inline int32_t nizwarf_reply(nizwarf_slot *slot, const nizwarf_session *session,
-				    const nizwarf_call *call, const nizwarf_answer *answer,
-				    const nizwarf_room *room, size_t rooms, nizwarf_told *told);
+/* Encodes the answer to a call that nizwarf_decode has decoded, into a reply buffer of
+ * the same size. The parts of the buffer may differ, and so may the thread. The session must have the same
+ * sizes.
+ *
+ * Returns NIZWARF_OK if the reply is in the reply buffer: its length is in the result. Returns
+ * NIZWARF_ENCODE_MESSAGE if it does not fit: there is no reply then. Returns NIZWARF_OUT_OF_MEMORY only with
+ * other scratch memory than the call was decoded with: the program may call it again with the same arguments,
+ * and must not drop any lookups before; or it may give up, and must then drop them. After each of these the
+ * program must drop the lookups that the result names (`forget`, `entries`). Any other code is an error of
+ * the program, and the result means nothing. */
+int32_t nizwarf_encode(nizwarf_scratch *scratch, const nizwarf_session *session, const nizwarf_call *call,
+		       const nizwarf_answer *answer, const struct iovec *reply, size_t reply_count,
+		       nizwarf_result *result);
 
-/* Gives the memory of a slot back. NIZWARF_NO_SERVER: it had none. */
-static inline int32_t nizwarf_end_slot(nizwarf_slot *slot);
+/* Frees scratch memory. It may be used again afterwards. Returns NIZWARF_NO_SERVER if there was nothing to
+ * free. */
+int32_t nizwarf_scratch_free(nizwarf_scratch *scratch);
 
-enum { NIZWARF_MOST_INTERRUPTS = 64 };
+/* How many interrupts a nizwarf_interrupts keeps. */
+enum { NIZWARF_MAX_INTERRUPTS = 64 };
 
-/* Interrupts of requests that are not there: one has overtaken its request, or came after its end. It begins as
- * zeros, and is used under a lock of yours: whoever is told of an interrupt keeps the number, if no such call is there,
- * and a call that is to wait takes its own. The oldest go. */
+/* Recent interrupts whose requests were not found, because an interrupt may arrive before its request, or
+ * after its end. It must be initialised with zeros, and used under a lock of the program: an interrupt
+ * handler that does not find the request calls nizwarf_keep_interrupt, and a call that is about to wait calls
+ * nizwarf_take_interrupt first. When it is full, the oldest numbers are overwritten. Its fields must not be
+ * used. */
 typedef struct {
-	uint64_t unique[NIZWARF_MOST_INTERRUPTS];
+	uint64_t unique[NIZWARF_MAX_INTERRUPTS];
 	unsigned next;
 } nizwarf_interrupts;
 
-static inline void nizwarf_keep_interrupt(nizwarf_interrupts *kept, uint64_t unique)
-{
-	kept->unique[kept->next++ % NIZWARF_MOST_INTERRUPTS] = unique;
-}
+/* Keeps the number of an interrupted request that was not found. */
+void nizwarf_keep_interrupt(nizwarf_interrupts *kept, uint64_t unique);
 
-/* Whether this call was interrupted before it came: it answers EINTR. */
-static inline int nizwarf_take_interrupt(nizwarf_interrupts *kept, uint64_t unique)
-{
-	int i;
-
-	/* (0 is where none is kept, and no request of Linux) */
-	for (i = 0; unique && i < NIZWARF_MOST_INTERRUPTS; i++)
-		if (kept->unique[i] == unique) {
-			kept->unique[i] = 0;
-			return 1;
-		}
-	return 0;
-}
+/* Returns 1 if the call with this number was interrupted before it began, and forgets the interrupt; 0
+ * otherwise. The call should return EINTR after 1. */
+int nizwarf_take_interrupt(nizwarf_interrupts *kept, uint64_t unique);
 
 /* ---- Checks, and messages as text -------------------------------------------------------------- */
 
-/* A check stands in front of a server that trusts whoever sends it requests: check.c, of the examples. It has no
- * state, and no slot; nor have the two that print: any number of threads may call them.
+/* Checks and messages as text. A check is for a program between an untrusted client and a server that trusts
+ * its requests: see check.c of the examples. The functions of this section have no state and no scratch
+ * memory, so any number of threads may call them. The bytes of a message must not change during a call.
  *
- * Says what a request in one piece is, if there are `room` bytes for a reply. NIZWARF_ASKED: it is whole,
- * and asks for `call`. NIZWARF_OK: it needs no file system, and nizwarf_ask would finish it; of an INTERRUPT
- * `*interrupts` is then the number of the request that it wants to end, else it is 0. Others: it is refused,
- * as nizwarf_ask would. Whether a request has as many bytes as its header's `len` says is not judged, since not
- * all servers do.
+ * nizwarf_check tests a request in one part as nizwarf_decode would decode it for a reply buffer of this size
+ * (`reply_size`), but produces no reply. It returns NIZWARF_CALL if the request is well-formed and its call
+ * must be made; `call` is then filled in. It returns NIZWARF_OK if the request needs no file system, so that
+ * nizwarf_decode would return NIZWARF_OK; for an INTERRUPT it stores the number of the interrupted request in
+ * `*interrupts`, and otherwise 0. Any other code means that the request is rejected, as nizwarf_decode would
+ * reject it. An INIT of a later major version is NIZWARF_OK here even if its reply of 80 bytes does not fit.
+ * Whether the request has as many bytes as its header says is not checked, because not all servers rely on
+ * that.
  *
- * Memory is allocated only for the pairs of a BATCH_FORGET and for a security context: no other request
- * ends in NIZWARF_OUT_OF_MEMORY. */
-static inline int32_t nizwarf_check(const nizwarf_session *session, const void *request, size_t len,
-				    size_t room, nizwarf_call *call, uint64_t *interrupts);
-/* The same where these rows are offered. */
-static inline int32_t nizwarf_check_offered(const nizwarf_session *session, uint32_t offers,
-					    const void *request, size_t len, size_t room, nizwarf_call *call,
-					    uint64_t *interrupts);
+ * Memory is allocated only for a BATCH_FORGET and for a security context: no other request returns
+ * NIZWARF_OUT_OF_MEMORY. */
+int32_t nizwarf_check(const nizwarf_session *session, uint32_t features, const void *request, size_t len,
+		      size_t reply_size, nizwarf_call *call, uint64_t *interrupts);
 
-/* Writes a request as a line of text, without a newline, as snprintf(3) writes: at most `size` bytes, the last
- * of them a 0, which may cut the line. Answers how many bytes the whole line has without the 0. The line names
- * the opcode and each field; of a row that may be offered, as GETLK, only if its record is whole. As in
+/* Formats a request as a line of text without a newline. Like snprintf(3), it writes at most `size` bytes,
+ * the last of them a NUL, and returns the length of the whole line without the NUL; the line was truncated if
+ * this is not less than `size`. The line has the opcode and each field; those of an optional operation, such
+ * as GETLK, only if its record is complete. For example:
  *
  *	LOOKUP unique=3 node=1 uid=0 gid=0 pid=77 name="a"
  *
- * and it has only printable ASCII: `\x` and two hex digits stand for other bytes of a name. A request that
- * can't be read, or that is answered ENOSYS or EPROTO without a call, ends in `refused=` and why. `options` are
- * those of the session. `text` is NULL only if `size` is 0, and does not overlap the messages; NULL in place of
- * a message is one of no bytes. Nothing is allocated. */
-static inline size_t nizwarf_print_request(const void *request, size_t len, uint64_t options, char *text,
-					   size_t size);
+ * The line has only printable ASCII: other bytes of a name are written as `\x` and two hexadecimal digits. A
+ * request that cannot be decoded, or that is replied ENOSYS or EPROTO without a call, ends in `refused=` and
+ * the reason. `options` are those of the session. `text` may be NULL if `size` is 0, and must not overlap the
+ * messages. A message that is NULL counts as one of no bytes. Nothing is allocated. */
+size_t nizwarf_print_request(const void *request, size_t len, uint64_t options, char *text, size_t size);
 
-/* Writes the reply to a request likewise, as in
+/* Formats the reply to a request in the same way. For example:
  *
  *	-> unique=3 entry node=2 generation=0 ..
  *
- * The first 48 bytes of the request are enough: they say which record the reply has. A reply of no bytes is
- * `-> no reply`. */
-static inline size_t nizwarf_print_reply(const void *request, size_t len, const void *reply, size_t reply_len,
-					 char *text, size_t size);
+ * The first 48 bytes of the request suffice, because they say which record the reply has. A reply of no bytes
+ * is formatted as `-> no reply`. */
+size_t nizwarf_print_reply(const void *request, size_t len, const void *reply, size_t reply_len, char *text,
+			   size_t size);
 
 /* ---- Notices ----------------------------------------------------------------------------------- */
 
-/* What a server says unasked: write one to /dev/fuse in one piece, as a reply, from any thread; but not before a
- * request of the same node or name is answered, for which Linux may wait. It fails by ENOENT if it keeps nothing of
- * these, and by EINVAL if it doesn't know the notice. virtio-fs has no way for notices.
+/* Notices, which a server sends to Linux on its own account. The program must write a notice to /dev/fuse in
+ * one piece, as it writes a reply. It may do so on any thread, but must not do so inside a call for the same
+ * node or name, and must not hold a lock that a call needs, because Linux may wait for a request in progress
+ * before it handles the notice. The write fails with ENOENT if Linux has nothing cached for the node or name,
+ * and with EINVAL if it does not support the notice. Virtio-fs has no notices.
  *
- * Each function puts a notice over the first of the `size` bytes at `out`, and answers how many they are: 48 at most
- * without a name, and 41 and the name with one. 0: it is longer than that, or with what follows than 4 GiB, or a
- * pointer is NULL; nothing was put. They have no state, and allocate nothing. */
+ * Each function encodes a notice into the first of the `size` bytes at `out`, and returns its length: at most
+ * 48 bytes, or 41 bytes and the name. It returns 0 and writes nothing if the notice is longer than `size`, if
+ * it would be longer than 4 GiB with the data that follow, or if a pointer is NULL. The functions have no
+ * state and allocate nothing, so any number of threads may call them. */
 
-/* In `flags` of nizwarf_notice_inval_entry: the name is looked up again at its next use, and not dropped. */
+/* Bits of `flags` of nizwarf_notice_inval_entry. NIZWARF_EXPIRE_ONLY: the name is not dropped, but looked up
+ * again when it is used next. */
 enum { NIZWARF_EXPIRE_ONLY = 1 << 0 };
 
-/* Whoever polled by this number is to poll again: a POLL told it, with FUSE_POLL_SCHEDULE_NOTIFY. */
-static inline size_t nizwarf_notice_poll(uint64_t kh, void *out, size_t size);
+/* Wakes the callers that wait for events of a file. `kh` is the number of a POLL that had
+ * FUSE_POLL_SCHEDULE_NOTIFY; they poll again. */
+size_t nizwarf_notice_poll(uint64_t kh, void *out, size_t size);
 
-/* What is kept of a node is old: its attributes, and its bytes from `offset` on, `len` of them, or all if that isn't
- * above 0; none of its bytes if `offset` is below 0. */
-static inline size_t nizwarf_notice_inval_inode(uint64_t node, int64_t offset, int64_t len, void *out,
-						size_t size);
+/* Invalidates the cached attributes of a node, and `len` bytes of its cached data from `offset` on; all from
+ * there if `len` is 0 or less, and none if `offset` is negative. */
+size_t nizwarf_notice_inval_inode(uint64_t node, int64_t offset, int64_t len, void *out, size_t size);
 
-/* A name in a directory is old. */
-static inline size_t nizwarf_notice_inval_entry(uint64_t parent, uint32_t flags, const char *name,
-						size_t name_len, void *out, size_t size);
+/* Invalidates a cached name in a directory. `name` has `name_len` bytes and needs no NUL. */
+size_t nizwarf_notice_inval_entry(uint64_t parent, uint32_t flags, const char *name, size_t name_len,
+				  void *out, size_t size);
 
-/* These are bytes of a node, to be kept: `count` of them, from `offset` on, follow in the same write. */
-static inline size_t nizwarf_notice_store(uint64_t node, uint64_t offset, uint32_t count, void *out,
-					  size_t size);
+/* Stores data in the page cache of a node: the `count` bytes from `offset` on, which must follow the notice
+ * in the same write. */
+size_t nizwarf_notice_store(uint64_t node, uint64_t offset, uint32_t count, void *out, size_t size);
 
-/* Bytes that are kept of a node are wanted: `count` of them, from `offset` on, come by a NOTIFY_REPLY whose `unique`
- * is this. */
-static inline size_t nizwarf_notice_retrieve(uint64_t unique, uint64_t node, uint64_t offset, uint32_t count,
-					     void *out, size_t size);
+/* Requests cached data of a node: at most `count` bytes from `offset` on. They arrive as a NOTIFY_REPLY with
+ * this `unique`, for which the feature NIZWARF_FEATURE_NOTIFY_REPLY must be enabled. */
+size_t nizwarf_notice_retrieve(uint64_t unique, uint64_t node, uint64_t offset, uint32_t count, void *out,
+			       size_t size);
 
-/* A name in a directory, which was that of the node `child`, is gone: also for who watches it by inotify(7). */
-static inline size_t nizwarf_notice_delete(uint64_t parent, uint64_t child, const char *name, size_t name_len,
-					   void *out, size_t size);
+/* Removes a cached name in a directory that referred to the node `child`, because the file was deleted.
+ * Unlike nizwarf_notice_inval_entry, it also reports the deletion to processes that watch the file by
+ * inotify(7). */
+size_t nizwarf_notice_delete(uint64_t parent, uint64_t child, const char *name, size_t name_len, void *out,
+			     size_t size);
 
-/* All requests that have no reply yet are to be sent again, as to a server that took over: bit 63 of their `unique`
- * is set. */
-static inline size_t nizwarf_notice_resend(void *out, size_t size);
+/* Requests that Linux sends all requests again that have no reply yet, for a server that takes over from
+ * another one. Bit 63 of their `unique` is set. */
+size_t nizwarf_notice_resend(void *out, size_t size);
 
-/* All names that are kept are to be looked up again at their next use. */
-static inline size_t nizwarf_notice_inc_epoch(void *out, size_t size);
+/* Invalidates all cached names: each is looked up again when it is used next. */
+size_t nizwarf_notice_inc_epoch(void *out, size_t size);
 
-/* Nodes are to be forgotten, if nothing uses them: the numbers of `count` follow in the same write, of 8 bytes each. */
-static inline size_t nizwarf_notice_prune(uint32_t count, void *out, size_t size);
+/* Requests that Linux forgets nodes that are not in use. Their numbers, `count` of them with 8 bytes each,
+ * must follow the notice in the same write. */
+size_t nizwarf_notice_prune(uint32_t count, void *out, size_t size);
 
 /* ---- The functions of the library -------------------------------------------------------------- */
 
-/* A program that isn't in C links these, and lays structs out so. No pointer is NULL, and that to a
- * list or a text of length 0 may point anywhere. Their contracts: crates/nizwarf_door/src. */
+/* For programs in other languages, which link these functions and lay out the structs as follows. Their
+ * contracts are in crates/nizwarf_codec/src. No pointer may be NULL here; one to a list or a text of length 0
+ * may point anywhere. */
 #if defined(__cplusplus) && __cplusplus >= 201103L
 #define NIZWARF_HOLDS(fact) static_assert(fact, #fact)
 #elif !defined(__cplusplus) && defined(__STDC_VERSION__) && __STDC_VERSION__ >= 201112L
@@ -852,55 +935,54 @@ static inline size_t nizwarf_notice_prune(uint32_t count, void *out, size_t size
 #endif
 
 NIZWARF_HOLDS(sizeof(void *) == 8 && sizeof(size_t) == 8);
-NIZWARF_HOLDS(sizeof(nizwarf_segment) == 16 && sizeof(nizwarf_room) == 16);
-NIZWARF_HOLDS(sizeof(nizwarf_slot) == 8 && sizeof(nizwarf_range) == 16);
-NIZWARF_HOLDS(sizeof(nizwarf_session) == 16 && sizeof(nizwarf_told) == 48);
+NIZWARF_HOLDS(sizeof(struct iovec) == 16);
+NIZWARF_HOLDS(sizeof(nizwarf_scratch) == 8 && sizeof(nizwarf_range) == 16);
+NIZWARF_HOLDS(sizeof(nizwarf_session) == 16 && sizeof(nizwarf_result) == 48);
 NIZWARF_HOLDS(sizeof(nizwarf_setattr) == 88 && sizeof(nizwarf_call) == 312);
 NIZWARF_HOLDS(sizeof(nizwarf_attr) == 88 && sizeof(nizwarf_entry) == 128);
-NIZWARF_HOLDS(sizeof(nizwarf_statfs) == 64 && sizeof(nizwarf_item) == 168);
+NIZWARF_HOLDS(sizeof(nizwarf_statfs) == 64 && sizeof(nizwarf_dirent) == 168);
 NIZWARF_HOLDS(sizeof(nizwarf_answer) == 256);
-NIZWARF_HOLDS(sizeof(nizwarf_init_more) == 40);
+NIZWARF_HOLDS(sizeof(nizwarf_init_params) == 40);
 NIZWARF_HOLDS(sizeof(nizwarf_lock) == 24 && sizeof(nizwarf_ioctl) == 16 && sizeof(nizwarf_statx) == 288);
 #undef NIZWARF_HOLDS
 
-/* `told` comes to both as zeros, but for the options: the session's to an ask, the call's to an
- * answer. `call` comes to an ask with `call` 0. Of `answer` the first 224 bytes are read: text and
- * items come by themselves. After both, told.put bytes are copied out: nizwarf_copy_slot_at copies
- * the bytes from place `at` on, as many as there are and the piece has room for, and answers how
- * many. An error above 511 is replied as it is, and a listing ends before an item that can't be told:
- * nizwarf_reply answers EIO in place of both, and so does who calls these. */
-int32_t nizwarf_ask_at(nizwarf_slot *slot, const nizwarf_session *session, const nizwarf_segment *request,
-		       size_t segments, size_t room, nizwarf_call *call, nizwarf_told *told);
-int32_t nizwarf_answer_at(nizwarf_slot *slot, const nizwarf_session *session, const nizwarf_call *call,
+/* Decode, encode, copy the reply, and free scratch memory. The functions above call these.
+ *
+ * The result must be zeroed before, except for its `options`, which must be those of the session for
+ * nizwarf_decode_at, and those of the call for nizwarf_encode_at. `call->opcode` must be 0 for
+ * nizwarf_decode_at. `features` has no NIZWARF_FEATURE_INIT. `reply_size` is the size of the reply buffer. Of
+ * `answer` the first 224 bytes are read, because its text and entries are passed as arguments. After both
+ * functions the first `written` bytes of the reply must be copied into the reply buffer:
+ * nizwarf_scratch_copy_at copies bytes from the position `at` on, as many as there are and `piece` can hold,
+ * and returns how many.
+ *
+ * Two checks of nizwarf_encode are left to the caller, who must reply EIO in these cases: an error number
+ * above 511 is replied as it is, and a listing ends before an entry with an invalid name or error. */
+int32_t nizwarf_decode_at(nizwarf_scratch *scratch, const nizwarf_session *session, uint32_t features,
+			  const struct iovec *request, size_t request_count, size_t reply_size,
+			  nizwarf_call *call, nizwarf_result *result);
+int32_t nizwarf_encode_at(nizwarf_scratch *scratch, const nizwarf_session *session, const nizwarf_call *call,
 			  const nizwarf_answer *answer, const uint8_t *text, size_t text_len,
-			  const nizwarf_item *items, size_t items_len, nizwarf_told *told);
-size_t nizwarf_copy_slot_at(nizwarf_slot *slot, size_t at, uint8_t *piece, size_t piece_len);
-int32_t nizwarf_end_slot_at(nizwarf_slot *slot);
-/* Those of a file system that offers rows. The second is as nizwarf_answer_at, but that the text of a GETLK, a STATX
- * and an IOCTL is looked at. */
-int32_t nizwarf_ask_offered_at(nizwarf_slot *slot, const nizwarf_session *session, uint32_t offers,
-			       const nizwarf_segment *request, size_t segments, size_t room,
-			       nizwarf_call *call, nizwarf_told *told);
-int32_t nizwarf_answer_offered_at(nizwarf_slot *slot, const nizwarf_session *session,
-				  const nizwarf_call *call, const nizwarf_answer *answer, const uint8_t *text,
-				  size_t text_len, const nizwarf_item *items, size_t items_len,
-				  nizwarf_told *told);
-int32_t nizwarf_check_offered_at(const nizwarf_session *session, uint32_t offers, const uint8_t *request,
-				 size_t len, size_t room, nizwarf_call *call, uint64_t *interrupts);
-/* The further options that an INIT offers, of which the first bytes are enough; and what is agreed on besides, put into
- * its reply: the bits that were agreed on are answered. */
+			  const nizwarf_dirent *items, size_t items_len, nizwarf_result *result);
+size_t nizwarf_scratch_copy_at(nizwarf_scratch *scratch, size_t at, uint8_t *piece, size_t piece_len);
+int32_t nizwarf_scratch_free_at(nizwarf_scratch *scratch);
+/* nizwarf_init_capable_at returns the extension options that the client of an INIT supports; the first
+ * NIZWARF_INIT_FRONT bytes of the request suffice. nizwarf_add_to_init_at adds parameters to the reply to an
+ * INIT, and returns the extension options that are negotiated. NIZWARF_LONGEST_CHANGED is the length of the
+ * longest reply that these functions, or nizwarf_add_backing_at, change. */
 enum { NIZWARF_INIT_FRONT = 104, NIZWARF_LONGEST_CHANGED = 160 };
-uint64_t nizwarf_init_offered_at(const uint8_t *request, size_t len);
-uint64_t nizwarf_add_to_init_at(uint8_t *reply, size_t len, uint64_t offered, const nizwarf_init_more *more);
-/* `call` comes with `call` 0, and `*interrupts` as 0. */
-int32_t nizwarf_check_at(const nizwarf_session *session, const uint8_t *request, size_t len, size_t room,
-			 nizwarf_call *call, uint64_t *interrupts);
+uint64_t nizwarf_init_capable_at(const uint8_t *request, size_t len);
+uint64_t nizwarf_add_to_init_at(uint8_t *reply, size_t len, uint64_t offered,
+				const nizwarf_init_params *more);
+/* Check and format. `call->opcode` and `*interrupts` must be 0 before. */
+int32_t nizwarf_check_at(const nizwarf_session *session, uint32_t features, const uint8_t *request,
+			 size_t len, size_t reply_size, nizwarf_call *call, uint64_t *interrupts);
 size_t nizwarf_print_request_at(const uint8_t *request, size_t len, uint64_t options, uint8_t *text,
 				size_t text_len);
 size_t nizwarf_print_reply_at(const uint8_t *request, size_t len, const uint8_t *reply, size_t reply_len,
 			      uint8_t *text, size_t text_len);
 
-/* Those of notices: the bytes of a name are in one piece, without a 0. */
+/* Encode notices. A name must be in one piece; it has no NUL. */
 size_t nizwarf_notice_poll_at(uint64_t kh, uint8_t *out, size_t size);
 size_t nizwarf_notice_inval_inode_at(uint64_t node, int64_t offset, int64_t len, uint8_t *out, size_t size);
 size_t nizwarf_notice_inval_entry_at(uint64_t parent, uint32_t flags, const uint8_t *name, size_t name_len,
@@ -913,363 +995,12 @@ size_t nizwarf_notice_delete_at(uint64_t parent, uint64_t child, const uint8_t *
 size_t nizwarf_notice_resend_at(uint8_t *out, size_t size);
 size_t nizwarf_notice_inc_epoch_at(uint8_t *out, size_t size);
 size_t nizwarf_notice_prune_at(uint32_t count, uint8_t *out, size_t size);
-/* Names the file of a `backing_id` in the reply to an OPEN or a CREATE, if PASSTHROUGH is agreed on: 1. 0: the reply is
- * a fault, or no whole one, and stays. */
+/* Adds the number of a backing file to the reply to an OPEN or a CREATE, which must have negotiated
+ * PASSTHROUGH. Returns 1, or 0 if the reply is an error or incomplete, and is left unchanged. */
 int32_t nizwarf_add_backing_at(uint8_t *reply, size_t len, int32_t id);
-
-/* ---- What is inline ---------------------------------------------------------------------------- */
-
-/* How many bytes the rooms have together; NIZWARF_NULL where a list or a piece of one is NULL. */
-static inline int32_t nizwarf_add_up(const nizwarf_segment *request, size_t segments,
-				     const nizwarf_room *room, size_t rooms, size_t *total)
-{
-	size_t i;
-
-	*total = 0;
-	if ((segments && !request) || (rooms && !room))
-		return NIZWARF_NULL;
-	for (i = 0; i < segments; i++)
-		if (!request[i].at)
-			return NIZWARF_NULL;
-	for (i = 0; i < rooms; i++) {
-		if (!room[i].at)
-			return NIZWARF_NULL;
-		if (room[i].len > SIZE_MAX - *total)
-			return NIZWARF_TOO_LONG;
-		*total += room[i].len;
-	}
-	return NIZWARF_OK;
-}
-
-/* Copies what was put into the rooms. */
-static inline void nizwarf_put(nizwarf_slot *slot, const nizwarf_room *room, size_t rooms, uint64_t put)
-{
-	size_t at = 0, i;
-
-	for (i = 0; i < rooms && at < put; i++) {
-		size_t len = put - at < room[i].len ? (size_t)(put - at) : room[i].len;
-
-		at += nizwarf_copy_slot_at(slot, at, (uint8_t *)room[i].at, len);
-	}
-}
-
-/* Copies the first bytes of a request. */
-static inline size_t nizwarf_front(const nizwarf_segment *request, size_t segments, uint8_t *front,
-				   size_t size)
-{
-	size_t len = 0, i;
-
-	for (i = 0; i < segments && len < size; i++) {
-		const size_t part = size - len < request[i].len ? size - len : request[i].len;
-
-		memcpy(front + len, request[i].at, part);
-		len += part;
-	}
-	return len;
-}
-
-/* Zeros for what is told of an ask, and how many bytes of room there are. */
-static inline int32_t nizwarf_begin_ask(const nizwarf_slot *slot, const nizwarf_session *session,
-					const nizwarf_segment *request, size_t segments,
-					const nizwarf_room *room, size_t rooms, nizwarf_call *call,
-					nizwarf_told *told, size_t *total)
-{
-	if (told)
-		memset(told, 0, sizeof(*told));
-	if (!slot || !session || !call || !told)
-		return NIZWARF_NULL;
-	call->call = 0;
-	told->options = session->options;
-	return nizwarf_add_up(request, segments, room, rooms, total);
-}
-
-static inline int32_t nizwarf_ask(nizwarf_slot *slot, const nizwarf_session *session,
-				  const nizwarf_segment *request, size_t segments, const nizwarf_room *room,
-				  size_t rooms, nizwarf_call *call, nizwarf_told *told)
-{
-	const nizwarf_segment none = { "", 0 };
-	size_t total;
-	int32_t code;
-
-	code = nizwarf_begin_ask(slot, session, request, segments, room, rooms, call, told, &total);
-	if (code != NIZWARF_OK)
-		return code;
-	code = nizwarf_ask_at(slot, session, segments ? request : &none, segments, total, call, told);
-	nizwarf_put(slot, room, rooms, told->put);
-	return code;
-}
-
-static inline int32_t nizwarf_ask_offered(nizwarf_slot *slot, const nizwarf_session *session, uint32_t offers,
-					  const nizwarf_segment *request, size_t segments,
-					  const nizwarf_room *room, size_t rooms, nizwarf_call *call,
-					  nizwarf_told *told)
-{
-	const nizwarf_segment none = { "", 0 };
-	uint8_t front[NIZWARF_INIT_FRONT];
-	size_t total;
-	int32_t code;
-
-	code = nizwarf_begin_ask(slot, session, request, segments, room, rooms, call, told, &total);
-	if (code != NIZWARF_OK)
-		return code;
-	code = nizwarf_ask_offered_at(slot, session, offers & ~(uint32_t)NIZWARF_OFFER_INIT,
-				      segments ? request : &none, segments, total, call, told);
-	nizwarf_put(slot, room, rooms, told->put);
-	if (code == NIZWARF_ASKED && call->call == NIZWARF_INIT && offers & NIZWARF_OFFER_INIT) {
-		call->other_offset = nizwarf_init_offered_at(
-			front, nizwarf_front(request, segments, front, sizeof(front)));
-		call->more = 1;
-	}
-	return code;
-}
-
-/* Whether an item can't be told: its name is none, or with PLUS the number of its error. `.` and `..` are not looked
- * up, so that an `error` of theirs means nothing, whether or not the item fits. */
-static inline int nizwarf_is_wrong(const nizwarf_item *item, int plus)
-{
-	const uint8_t *end = item->name_size ? item->name + item->name_size - 1 : NULL;
-	int is_dot;
-
-	if (!end || memchr(item->name, 0, item->name_size) != end)
-		return 1;
-	is_dot = item->name[0] == '.' &&
-		 (item->name_size == 2 || (item->name_size == 3 && item->name[1] == '.'));
-	return plus && !is_dot && item->error > NIZWARF_LAST_ERROR;
-}
-
-/* Whether a directory was read up to an item that can't be told. */
-static inline int nizwarf_is_cut(const nizwarf_call *call, const nizwarf_answer *answer, uint64_t taken)
-{
-	return call->answer == NIZWARF_DIRECTORY && !answer->error && taken < answer->items_len &&
-	       nizwarf_is_wrong(&answer->items[taken], (call->has & NIZWARF_PLUS) != 0);
-}
-
-/* Answers EIO in place of what can't be told. */
-static inline int32_t nizwarf_answer_fault(nizwarf_slot *slot, const nizwarf_session *session,
-					   const nizwarf_call *call, nizwarf_told *told)
-{
-	static const nizwarf_answer fault = NIZWARF_NO_ANSWER;
-
-	memset(told, 0, sizeof(*told));
-	told->options = call->options;
-	return nizwarf_answer_at(slot, session, call, &fault, (const uint8_t *)&fault, 0,
-				 (const nizwarf_item *)(const void *)&fault, 0, told);
-}
-
-/* Puts a reply of few bytes that is changed: to an INIT, with what is agreed on besides; to an OPEN or a CREATE, with
- * the file that the client reads and writes by itself. */
-static inline void nizwarf_put_changed(nizwarf_slot *slot, const nizwarf_call *call,
-				       const nizwarf_answer *answer, const nizwarf_room *room, size_t rooms,
-				       nizwarf_told *told)
-{
-	uint8_t reply[NIZWARF_LONGEST_CHANGED];
-	nizwarf_init_more more;
-	size_t at = 0, i, len;
-
-	len = nizwarf_copy_slot_at(slot, 0, reply, sizeof(reply));
-	if (call->call == NIZWARF_INIT) {
-		memcpy(&more, answer->text, sizeof(more));
-		told->options |= nizwarf_add_to_init_at(reply, len, nizwarf_init_further(call), &more);
-	} else {
-		nizwarf_add_backing_at(reply, len, (int32_t)answer->count);
-	}
-	for (i = 0; i < rooms && at < len; i++) {
-		const size_t part = len - at < room[i].len ? len - at : room[i].len;
-
-		memcpy(room[i].at, reply + at, part);
-		at += part;
-	}
-}
-
-/* Whether a reply is to be changed. */
-static inline int nizwarf_is_changed(const nizwarf_session *session, const nizwarf_call *call,
-				     const nizwarf_answer *answer)
-{
-	if (answer->error)
-		return 0;
-	if (call->call == NIZWARF_INIT)
-		return nizwarf_init_takes_more(call) && answer->text_len == sizeof(nizwarf_init_more);
-	return (call->answer == NIZWARF_OPENED || call->answer == NIZWARF_CREATED) &&
-	       session->options & NIZWARF_PASSTHROUGH && answer->count;
-}
-
-/* Whether the library makes of any answer of this kind what is replied, whatever its text is: that is so of most. (There
- * is no kind above 31, and the library answers none.) */
-static inline int nizwarf_is_plain(const nizwarf_call *call)
-{
-	const uint32_t others = 1u << NIZWARF_DIRECTORY | 1u << NIZWARF_FAULT_OR_SILENCE |
-				1u << NIZWARF_WANT | 1u << NIZWARF_OPENED | 1u << NIZWARF_CREATED |
-				1u << NIZWARF_TEXT;
-
-	return !(others >> (call->answer & 31) & 1);
-}
-
-/* Whether the text of an answer is a record, which the library looks at. */
-static inline int nizwarf_is_record(const nizwarf_call *call)
-{
-	return call->answer == NIZWARF_TEXT && call->call != NIZWARF_READLINK;
-}
-
-static inline int32_t nizwarf_reply(nizwarf_slot *slot, const nizwarf_session *session,
-				    const nizwarf_call *call, const nizwarf_answer *answer,
-				    const nizwarf_room *room, size_t rooms, nizwarf_told *told)
-{
-	const nizwarf_item *items, *item;
-	const uint8_t *text;
-	size_t total;
-	int32_t code;
-
-	if (told)
-		memset(told, 0, sizeof(*told));
-	if (!slot || !session || !call || !answer || !told)
-		return NIZWARF_NULL;
-	told->options = call->options;
-	code = nizwarf_add_up(NULL, 0, room, rooms, &total);
-	if (code != NIZWARF_OK)
-		return code;
-	if (total != call->room)
-		return NIZWARF_NOT_ASKED;
-	/* (a pointer to something, also where there is nothing) */
-	text = (const uint8_t *)answer;
-	items = (const nizwarf_item *)(const void *)answer;
-	if (nizwarf_is_plain(call) && !answer->text_len && !answer->items_len) {
-		code = nizwarf_answer_at(slot, session, call, answer, text, 0, items, 0, told);
-		if (code == NIZWARF_OK && answer->error > NIZWARF_LAST_ERROR)
-			code = nizwarf_answer_fault(slot, session, call, told);
-		nizwarf_put(slot, room, rooms, told->put);
-		return code;
-	}
-	if (answer->text_len)
-		text = answer->text;
-	if (answer->items_len)
-		items = answer->items;
-	if (!text || !items)
-		return NIZWARF_NULL;
-	for (item = items; item != items + answer->items_len; item++)
-		if (!item->name)
-			return NIZWARF_NULL;
-	if (nizwarf_is_record(call))
-		code = nizwarf_answer_offered_at(slot, session, call, answer, text, answer->text_len, items,
-						 answer->items_len, told);
-	else
-		code = nizwarf_answer_at(slot, session, call, answer, text, answer->text_len, items,
-					 answer->items_len, told);
-	if (code == NIZWARF_OK &&
-	    (answer->error > NIZWARF_LAST_ERROR || nizwarf_is_cut(call, answer, told->taken) ||
-	     (!answer->error && call->answer == NIZWARF_FAULT_OR_SILENCE &&
-	      call->call != NIZWARF_NOTIFY_REPLY)))
-		code = nizwarf_answer_fault(slot, session, call, told);
-	if (code == NIZWARF_OK && nizwarf_is_changed(session, call, answer))
-		nizwarf_put_changed(slot, call, answer, room, rooms, told);
-	else
-		nizwarf_put(slot, room, rooms, told->put);
-	return code;
-}
-
-static inline int32_t nizwarf_end_slot(nizwarf_slot *slot)
-{
-	return slot ? nizwarf_end_slot_at(slot) : NIZWARF_NULL;
-}
-
-static inline int32_t nizwarf_check(const nizwarf_session *session, const void *request, size_t len,
-				    size_t room, nizwarf_call *call, uint64_t *interrupts)
-{
-	if (!session || !request || !call || !interrupts)
-		return NIZWARF_NULL;
-	call->call = 0;
-	*interrupts = 0;
-	return nizwarf_check_at(session, (const uint8_t *)request, len, room, call, interrupts);
-}
-
-static inline int32_t nizwarf_check_offered(const nizwarf_session *session, uint32_t offers,
-					    const void *request, size_t len, size_t room, nizwarf_call *call,
-					    uint64_t *interrupts)
-{
-	if (!session || !request || !call || !interrupts)
-		return NIZWARF_NULL;
-	call->call = 0;
-	*interrupts = 0;
-	return nizwarf_check_offered_at(session, offers & ~(uint32_t)NIZWARF_OFFER_INIT,
-					(const uint8_t *)request, len, room, call, interrupts);
-}
-
-static inline size_t nizwarf_print_request(const void *request, size_t len, uint64_t options, char *text,
-					   size_t size)
-{
-	uint8_t none = 0;
-
-	return nizwarf_print_request_at(request ? (const uint8_t *)request : &none, request ? len : 0,
-					options, text ? (uint8_t *)text : &none, text ? size : 0);
-}
-
-static inline size_t nizwarf_print_reply(const void *request, size_t len, const void *reply, size_t reply_len,
-					 char *text, size_t size)
-{
-	uint8_t none = 0;
-
-	return nizwarf_print_reply_at(request ? (const uint8_t *)request : &none, request ? len : 0,
-				      reply ? (const uint8_t *)reply : &none, reply ? reply_len : 0,
-				      text ? (uint8_t *)text : &none, text ? size : 0);
-}
-
-static inline size_t nizwarf_notice_poll(uint64_t kh, void *out, size_t size)
-{
-	return out ? nizwarf_notice_poll_at(kh, (uint8_t *)out, size) : 0;
-}
-
-static inline size_t nizwarf_notice_inval_inode(uint64_t node, int64_t offset, int64_t len, void *out,
-						size_t size)
-{
-	return out ? nizwarf_notice_inval_inode_at(node, offset, len, (uint8_t *)out, size) : 0;
-}
-
-static inline size_t nizwarf_notice_inval_entry(uint64_t parent, uint32_t flags, const char *name,
-						size_t name_len, void *out, size_t size)
-{
-	return name && out ? nizwarf_notice_inval_entry_at(parent, flags, (const uint8_t *)name, name_len,
-							   (uint8_t *)out, size) :
-			     0;
-}
-
-static inline size_t nizwarf_notice_store(uint64_t node, uint64_t offset, uint32_t count, void *out,
-					  size_t size)
-{
-	return out ? nizwarf_notice_store_at(node, offset, count, (uint8_t *)out, size) : 0;
-}
-
-static inline size_t nizwarf_notice_retrieve(uint64_t unique, uint64_t node, uint64_t offset, uint32_t count,
-					     void *out, size_t size)
-{
-	return out ? nizwarf_notice_retrieve_at(unique, node, offset, count, (uint8_t *)out, size) : 0;
-}
-
-static inline size_t nizwarf_notice_delete(uint64_t parent, uint64_t child, const char *name, size_t name_len,
-					   void *out, size_t size)
-{
-	return name && out ? nizwarf_notice_delete_at(parent, child, (const uint8_t *)name, name_len,
-						      (uint8_t *)out, size) :
-			     0;
-}
-
-static inline size_t nizwarf_notice_resend(void *out, size_t size)
-{
-	return out ? nizwarf_notice_resend_at((uint8_t *)out, size) : 0;
-}
-
-static inline size_t nizwarf_notice_inc_epoch(void *out, size_t size)
-{
-	return out ? nizwarf_notice_inc_epoch_at((uint8_t *)out, size) : 0;
-}
-
-static inline size_t nizwarf_notice_prune(uint32_t count, void *out, size_t size)
-{
-	return out ? nizwarf_notice_prune_at(count, (uint8_t *)out, size) : 0;
-}
 
 #ifdef __cplusplus
 }
 #endif
-
-#include "nizwarf_tree.h"
 
 #endif

@@ -1,30 +1,68 @@
-/* A file system as a table of functions, like libfuse's fuse_lowlevel_ops, over the door of
- * nizwarf.h.
+/* nizwarf_ops.h - a FUSE file system as a table of functions, modelled on libfuse's fuse_lowlevel_ops.
  *
- * Names are libfuse's where they mean the same. Each function answers 0, or the number of an error,
- * as ENOENT. What else it answers goes where the pointers at its end point to, which are zeros
- * before. What it is handed is lent until then.
+ * Fill in a nizwarf_ops, then call nizwarf_serve_ops() for each request: it decodes the request, calls the
+ * function of the table, and encodes the reply. Members have libfuse's names where they mean the same. The
+ * examples have hello.c, a file system of one file, and news.c, which uses every optional operation.
  *
- * A function that is NULL answers ENOSYS, and its row is not offered (NIZWARF_OFFER_LOCKS ..): then the
- * reply is virtiofsd's. But OPEN, OPENDIR, RELEASE and RELEASEDIR are done without one, INIT, DESTROY
- * and FORGET are too, and STATFS tells of names of 255 bytes.
+ * Return values. A function returns 0 or a positive error number of errno.h, such as ENOENT; a negative
+ * number is an error of the program and is replied as EIO. Results are stored through the pointers at the end
+ * of the argument list. They point to zeroed memory, unless the function's description says otherwise, and
+ * are ignored if the function returns an error. All arguments are valid until the function returns, so a
+ * function must copy data that it needs later.
  *
- * A function may answer later: it copies `*req->call` and what else it wants of the request, and
- * answers NIZWARF_LATER. Then nizwarf_serve_ops answers NIZWARF_ASKED, and whoever has the copy
- * answers it once, from any thread, by nizwarf_finish_ops; perhaps before nizwarf_serve_ops comes back, which
- * touches neither the request nor the room once the function has returned.
- * So a lock that is waited for holds no thread. FORGET, DESTROY, INIT and READDIR can't be answered later.
+ * NULL functions. A NULL function replies ENOSYS. The exceptions are open, opendir, release, releasedir and
+ * statfs, which succeed, and init, conn, destroy, forget, forget_multi, interrupt and bad_error, which are
+ * skipped. The operations that virtiofsd lacks are enabled only if the table has their function: getlk,
+ * setlk, flock, bmap, ioctl, poll, tmpfile, statx, retrieve_reply, conn, and the long form of
+ * copy_file_range.
  *
- * An answer that Linux refuses comes to who asked as an error, and ends nothing: EIO for the number
- * of an error below 0 or above 511, a link of more than 4095 bytes, and more bytes read, written or
- * copied than were asked for; ERANGE for an attribute longer than asked for, or than the room. Times
- * below 0 are 0. `bad_error` is called with a number that is no error.
+ * ENOSYS. Linux remembers ENOSYS for many operations: it then stops sending the operation, for all files of
+ * the mount. So a function must not return ENOSYS because of one file or one argument; it should return
+ * EOPNOTSUPP or EINVAL. The description of each function says whether ENOSYS has a lasting effect and how
+ * Linux continues.
  *
- * Any number of threads may serve one client with one table and one session, each with a slot, a
- * request, a room and items of its own. Here `session->options` are read and written as atomics, by
- * nothing else: `req->call->options` are those of a call.
+ * Nodes. A node is a file or directory, named by a number that the file system chooses; the root is 1. Each
+ * entry that a function returns counts one lookup of its node, because Linux keeps the number until it has
+ * forgotten as many lookups: entries of lookup, mknod, mkdir, symlink, link, create and tmpfile, and those of
+ * readdirplus except `.` and `..`. The root needs no lookup and is never forgotten. The file system must keep
+ * a node while it has lookups or open files, even if no name refers to it any more, because Linux goes on
+ * using an unlinked file that is open, mapped, or a working directory. Once a node has neither, its memory
+ * may be freed (and its data, if no name refers to it), and its number may be used again with another
+ * generation. A function should return ESTALE for a number that it does not know.
  *
- * C11, C++11, or C99.
+ * Order. Linux sends the forget of a file after it has closed the file's last handle by release. It may send
+ * release, releasedir and forget in the background, so they may arrive some time after close(2) or unlink(2)
+ * returned. A forget may run at the same time as a lookup of the same node, so the count must be changed
+ * under a lock, or atomically, and a lookup must be counted before its function returns.
+ *
+ * Deferred replies. A function may return NIZWARF_LATER, after it has copied `*req->call` and all data it
+ * needs. nizwarf_serve_ops then returns NIZWARF_CALL, and the program must reply once, by
+ * nizwarf_finish_ops, on any thread and possibly before nizwarf_serve_ops has returned. The library uses
+ * neither the request nor the reply buffer after the function has returned. So a lock request that waits
+ * blocks no thread. With the transports of the examples (transport.h), the function must call transport_keep
+ * first, and the program must pass the reply to transport_complete. init, conn, readdir and readdirplus must
+ * not return NIZWARF_LATER (it is replied as EIO there), nor may functions without a result.
+ *
+ * Rejected answers. An answer that Linux would reject is replaced by an error: EIO for an error number below
+ * 0 or above 511 (bad_error is called), for a link target of more than 4095 bytes, and for more bytes read,
+ * written or copied than requested; ERANGE for an extended attribute that is longer than requested or than
+ * the reply buffer. A timeout below 0 counts as 0. The session goes on.
+ *
+ * Threads. Any number of threads may serve one client with one table and one session; each must have its own
+ * scratch memory, request, reply buffer and array of directory entries. Functions run at the same time, also
+ * for the same node, so they must lock their own data. Linux holds i_rwsem of the directory in create, mknod,
+ * mkdir, symlink, link, unlink, rmdir and rename (of both directories), so these run one at a time in a
+ * directory. It holds that of the node in setattr, setxattr, removexattr, fsync and fsyncdir, in write unless
+ * the file was opened with FOPEN_PARALLEL_DIRECT_WRITES or the data come from the page cache, and in
+ * copy_file_range that of the destination. Lookups and listings of one directory run in parallel if
+ * PARALLEL_DIROPS is negotiated, as it is by default, and one at a time otherwise; a lookup that revalidates
+ * a cached name takes no lock. A file system must not rely on these locks for its integrity, because a guest
+ * need not take them.
+ *
+ * `session->options` are read and written atomically here, and by nothing else. The options that a call was
+ * decoded with are `req->call->options`.
+ *
+ * This header compiles as C99, C11 and C++11.
  */
 #ifndef NIZWARF_OPS_H
 #define NIZWARF_OPS_H
@@ -43,1053 +81,545 @@
 extern "C" {
 #endif
 
-/* What is asked. `user` is yours, `call` has the caller: uid, gid, pid, umask, and what is said of
- * a new node by its extensions. `request` has the bytes that ranges are of.
+/* The context of a call. `user` is the pointer that was passed to nizwarf_serve_ops. `call` has the caller
+ * (`uid`, `gid`, `pid`, `umask`), the number of the request (`unique`), and for a new node its security
+ * context and supplementary group. Ranges of `call` are offsets into `request`.
  *
- * Who checks permissions: the kernel, on a mount with default_permissions, or else you. uid and gid
- * are 2^32 - 1 where ALLOW_IDMAP is agreed on, but in calls that make a node. */
+ * Permissions. If the file system is mounted with default_permissions, Linux checks them. Otherwise each
+ * function must check them by `uid` and `gid`. With NIZWARF_WANT_ALLOW_IDMAP both are 2^32 - 1, except in
+ * calls that create a node. Requests that Linux sends in the background, such as release and the writing of
+ * cached pages, need not have the caller that caused them.
+ *
+ * When the library itself calls forget, release or releasedir, because a result did not reach the client,
+ * `call` is the call that had this result, and `request` must not be read. */
 typedef struct {
 	void *user;
 	const nizwarf_call *call;
 	const uint8_t *request;
 } nizwarf_req;
 
-/* What a function answers that answers later. It is no error of Linux, and no negated one. */
+/* Returned by a function whose reply is sent later, by nizwarf_finish_ops. It is neither an error number nor
+ * a negated one. */
 enum { NIZWARF_LATER = -0x10000 };
 
-/* An open file. `fh` is what OPEN or CREATE answered. `flags` are those of open(2), for open,
- * opendir, create, tmpfile, read, write, release and releasedir; `lock_owner` is for read, write,
- * flush, release and locks; else they are 0. `open_flags` are FOPEN_KEEP_CACHE .. of linux/fuse.h, which OPEN,
- * OPENDIR and CREATE answer. `backing_id` is that of nizwarf_answer_backing; 0: none. */
+/* An open file or directory.
+ *
+ * `fh` is chosen by open, opendir, create or tmpfile, and passed to all later calls for the open file.
+ * `lock_owner` identifies the owner of locks: in read, write and release it is set only if `req->call->has`
+ * has NIZWARF_HAS_OWNER, in flush, getlk, setlk and flock always. `flags` are those of open(2), in open,
+ * opendir, create, tmpfile, read, write, release and releasedir. Fields that a call does not have are 0.
+ *
+ * open, opendir, create and tmpfile may set three fields. `open_flags` are FOPEN_KEEP_CACHE and others of
+ * linux/fuse.h; unknown bits are ignored. A `backing_id` that is not 0 lets Linux read and write the file
+ * directly: see nizwarf_answer_backing. */
 typedef struct {
 	uint64_t fh, lock_owner;
 	uint32_t flags, open_flags;
 	uint32_t backing_id, padding;
 } nizwarf_file_info;
 
-/* An entry. `ino` is the number of the node, `attr.ino` that which programs see. */
+/* A directory entry: a name's node and its attributes. `ino` is the number of the node; `attr.ino` is the
+ * inode number that stat(2) shows, which may differ. `ino` must not be 1, the root, nor 0 except in lookup;
+ * `attr` must have the file type in `mode`, and a `size` of at most INT64_MAX. Linux fails with EIO
+ * otherwise. The pair of `ino` and `generation` must be unique for as long as the file system exists, because
+ * an NFS client may remember it. Linux may use the attributes for `attr_timeout` and the name for
+ * `entry_timeout` without asking again. */
 typedef struct {
 	uint64_t ino, generation;
 	nizwarf_attr attr;
 	struct timespec attr_timeout, entry_timeout;
 } nizwarf_entry_param;
 
-/* The items of a directory while it is read, lent for the call: see nizwarf_add_direntry. */
+/* A directory listing in progress, valid until readdir or readdirplus returns. Its fields must not be used;
+ * see nizwarf_add_direntry and nizwarf_add_direntry_plus. */
 typedef struct nizwarf_dir nizwarf_dir;
 
-/* What a client offers at INIT (`capable`), and what is wanted of it, which begins as `want` of init does.
- * The other fields begin as 0, and are those of a nizwarf_init_more. */
+/* Parameters of INIT, for conn. `capable` has the options that the client supports. `want` is preset and
+ * interpreted as `*want` of init, and may also have the extension options that are described at
+ * nizwarf_init_params. The other fields are preset to 0, which leaves the default, and mean the same as the
+ * fields of a nizwarf_init_params. */
 typedef struct {
 	uint64_t capable, want;
 	uint32_t max_readahead, max_write, time_gran, max_stack_depth, request_timeout;
 	uint16_t max_background, congestion_threshold;
 } nizwarf_conn_info;
 
-/* How many lookups of a node are given back. */
+/* A number of lookups of a node to be dropped, for forget_multi. */
 typedef struct {
 	uint64_t ino, nlookup;
 } nizwarf_forget;
 
-/* How many forgets forget_multi gets at once: they are copied to the stack, aligned, from the request. */
-enum { NIZWARF_MOST_FORGETS = 64 };
+/* The largest `count` of forget_multi. Longer lists are passed in several calls, each from an aligned
+ * copy. */
+enum { NIZWARF_MAX_FORGETS = 64 };
 
-/* The table. It is read by all threads at once, so it stays as it is while requests are served. A name ends
- * with a 0, and is lent from the request; `size` and `len` are bytes; `off` and `offset` are bytes from the
- * beginning of a file, or for lseek as `whence` says, but in a directory what an item told. An entry that
- * is answered without an error counts as one lookup of its node, if that isn't 0, until it is forgotten. */
+/* The functions of a file system. The table must not change while requests are served, because all threads
+ * read it.
+ *
+ * `ino` and `parent` are node numbers, `parent` that of a directory. `name` is a string that ends in NUL.
+ * Linux sends no empty name, no name with a slash, and `.` and `..` only to lookup, for NFS. Other clients
+ * may, so a file system that uses names in the host's file system must reject these. `size` and `len` count
+ * bytes. `off` and `offset` are bytes from the beginning of the file; in a directory `off` is a position that
+ * an earlier entry had. */
 typedef struct nizwarf_ops {
-	/* `capable` are the options that are offered. `want` begins as those of NIZWARF_WANT_USUAL and
-	 * READDIRPLUS that are offered and served: see nizwarf_served. Take out what you don't want,
-	 * add what you do: just what is wanted, offered and served is agreed on. ALLOW_IDMAP takes
-	 * a mount with default_permissions, or Linux refuses everything (ECONNREFUSED). */
+	/* Begins a session (INIT). `capable` has the options that the client supports: FUSE_ASYNC_READ and
+	 * others of linux/fuse.h, `flags2` in bits 32 to 63. `*want` is preset to the options of
+	 * NIZWARF_WANT_DEFAULT and NIZWARF_WANT_READDIRPLUS that are in `capable` and that the table can
+	 * serve (nizwarf_served). The function may clear bits and set others; bits that are not in `capable`,
+	 * or that the table cannot serve, are ignored.
+	 *
+	 * A table with getlk and setlk must set FUSE_POSIX_LOCKS, and one with flock FUSE_FLOCK_LOCKS,
+	 * because Linux otherwise keeps these locks itself and sends no request for them.
+	 * NIZWARF_WANT_ALLOW_IDMAP must be set only if the mount has default_permissions. Otherwise, and if
+	 * the function returns an error, Linux refuses all later requests with ECONNREFUSED.
+	 *
+	 * A client may send INIT again, for example because a guest has restarted. This begins a new session,
+	 * so the file system should drop all lookups and open files of the previous one. */
 	int (*init)(const nizwarf_req *req, uint64_t capable, uint64_t *want);
-	/* The client goes, and holds no lookup from then on: see nizwarf_end_ops. */
+	/* Ends the session (DESTROY, or nizwarf_end_ops). The client has no lookups and no open files any
+	 * more: the file system must free those that remain here, because no forget, release or releasedir
+	 * follows for them. A later INIT begins a new session. Linux sends DESTROY over virtio-fs and for
+	 * block devices (fuseblk), and not when another mount of /dev/fuse ends; so the program should call
+	 * nizwarf_end_ops when it stops. */
 	void (*destroy)(const nizwarf_req *req);
+	/* Looks up a name in a directory, and fills in `*e`. Success counts one lookup of `e->ino`. If there
+	 * is no such name, the function must return ENOENT, or 0 with `e->ino` 0; the latter lets Linux cache
+	 * the absence of the name for `e->entry_timeout` and counts no lookup.
+	 *
+	 * Linux also sends it to revalidate a name whose `entry_timeout` has passed; that counts as well. If
+	 * the node or its generation is then another one, Linux drops the cached entry. ENOSYS has no lasting
+	 * effect. A table must have lookup and getattr to be of use. */
 	int (*lookup)(const nizwarf_req *req, uint64_t parent, const char *name, nizwarf_entry_param *e);
-	/* BATCH_FORGET comes as a forget for each of its pairs, where forget_multi is NULL. */
+	/* Drops `nlookup` lookups of a node (FORGET). When none is left, the client does not use the node any
+	 * more, and it may be freed if no name refers to it. There is no reply. A hostile client may drop
+	 * more lookups than the node has, so the function must not let the count go below 0.
+	 *
+	 * It is called once for each pair of a BATCH_FORGET if forget_multi is NULL. The library also calls
+	 * it, with `nlookup` 1, for an entry that did not reach the client: because its reply did not fit, or
+	 * because it is an entry of readdirplus that was not sent. */
 	void (*forget)(const nizwarf_req *req, uint64_t ino, uint64_t nlookup);
-	/* `fi` is NULL where the file isn't open, here and in setattr. */
+	/* Returns the attributes of a node and, in `*attr_timeout`, how long Linux may cache them. `fi` is
+	 * NULL unless the request names an open file; otherwise `fi->fh` is set. `attr->mode` must have the
+	 * file type, and the type of a node must never change, because Linux then marks the inode as bad:
+	 * each later use fails with EIO. With FUSE_WRITEBACK_CACHE Linux keeps its own size, mtime and ctime
+	 * of a regular file. ENOSYS has no lasting effect. */
 	int (*getattr)(const nizwarf_req *req, uint64_t ino, const nizwarf_file_info *fi, nizwarf_attr *attr,
 		       struct timespec *attr_timeout);
+	/* Changes attributes, and returns all of them as getattr does. `to_set` says which: FATTR_MODE,
+	 * FATTR_UID, FATTR_GID, FATTR_SIZE, FATTR_ATIME, FATTR_MTIME and FATTR_CTIME name fields of `set`;
+	 * the other fields are undefined and must not be used. FATTR_ATIME_NOW and FATTR_MTIME_NOW come with
+	 * FATTR_ATIME and FATTR_MTIME and request the current time. FATTR_KILL_SUIDGID requests that S_ISUID
+	 * is cleared, and S_ISGID if the group may execute the file; it comes only with
+	 * FUSE_HANDLE_KILLPRIV_V2.
+	 *
+	 * `fi` is NULL unless the request names an open file, as that of ftruncate(2) does. FATTR_SIZE with
+	 * size 0 is also sent for open(2) with O_TRUNC, unless ATOMIC_O_TRUNC is negotiated. FATTR_CTIME
+	 * comes only with FUSE_WRITEBACK_CACHE. ENOSYS has no lasting effect. */
 	int (*setattr)(const nizwarf_req *req, uint64_t ino, const nizwarf_setattr *set, uint32_t to_set,
 		       const nizwarf_file_info *fi, nizwarf_attr *attr, struct timespec *attr_timeout);
-	/* `size` is at most 4095, which is the most that Linux takes. */
+	/* Reads the target of a symbolic link: at most `size` bytes into `link`, and their number into
+	 * `*len`. No NUL is needed. `size` is at most 4095, the longest target that Linux accepts; if `*len`
+	 * is larger than `size`, EIO is replied. ENOSYS has no lasting effect. */
 	int (*readlink)(const nizwarf_req *req, uint64_t ino, char *link, size_t size, size_t *len);
+	/* Creates a regular file, a device, a FIFO or a socket. `mode` has the file type and the permissions;
+	 * `rdev` is the number of a device, encoded as by makedev(3). Linux has applied the umask, unless
+	 * FUSE_DONT_MASK is negotiated; the function must then apply `req->call->umask`, or the default
+	 * access control list of the directory. Fills in `*e` as lookup does, and counts one lookup. The type
+	 * in `e->attr.mode` must be that of `mode`, because Linux fails with EIO otherwise. It must return
+	 * EEXIST if the name exists.
+	 *
+	 * Linux sends mknod, and then open, for open(2) with O_CREAT if create returned ENOSYS. ENOSYS of
+	 * mknod itself has no lasting effect. */
 	int (*mknod)(const nizwarf_req *req, uint64_t parent, const char *name, uint32_t mode, uint32_t rdev,
 		     nizwarf_entry_param *e);
+	/* Creates a directory. `mode` has the permissions, without a file type. The umask is handled as in
+	 * mknod. Fills in `*e` as lookup does, for a directory, and counts one lookup. It must return EEXIST
+	 * if the name exists. ENOSYS has no lasting effect. */
 	int (*mkdir)(const nizwarf_req *req, uint64_t parent, const char *name, uint32_t mode,
 		     nizwarf_entry_param *e);
+	/* Removes a name that refers to anything but a directory. The node must stay valid, with its data,
+	 * while it has lookups or open files: Linux may send any request for it, such as read, write or
+	 * getattr (with `nlink` 0 if this was its last name). It may be freed after the last forget, which
+	 * follows the last release. If the function returns ENOENT, Linux drops its cached entry. ENOSYS has
+	 * no lasting effect. */
 	int (*unlink)(const nizwarf_req *req, uint64_t parent, const char *name);
+	/* Removes the name of a directory. It must return ENOTEMPTY if the directory has entries besides `.`
+	 * and `..`, and ENOTDIR if the name refers to something else. The node must stay valid while it has
+	 * lookups or is open, as in unlink, because it may be a working directory. ENOSYS has no lasting
+	 * effect. */
 	int (*rmdir)(const nizwarf_req *req, uint64_t parent, const char *name);
+	/* Creates a symbolic link whose target is `link`. The target may be any string that is not empty, and
+	 * must not be interpreted. Fills in `*e` as lookup does, for a link, and counts one lookup. It must
+	 * return EEXIST if the name exists. ENOSYS has no lasting effect. */
 	int (*symlink)(const nizwarf_req *req, const char *link, uint64_t parent, const char *name,
 		       nizwarf_entry_param *e);
+	/* Renames an entry, within a directory or into another one. With `flags` 0 an existing `newname` must
+	 * be replaced atomically; its node must stay valid as after unlink. The function must return EISDIR
+	 * if a directory would be replaced by something else, ENOTDIR in the reverse case, and ENOTEMPTY if
+	 * the replaced directory has entries.
+	 *
+	 * With RENAME_NOREPLACE it must return EEXIST if `newname` exists. With RENAME_EXCHANGE both names
+	 * must exist, and exchange their nodes atomically. With RENAME_WHITEOUT a character device with
+	 * device number 0 must remain at `name`. It must return EINVAL for flags that it does not support.
+	 * Linux sends no other flags. If a rename with flags returns ENOSYS, Linux lets all later ones with
+	 * flags fail with EINVAL; those without flags are still sent. */
 	int (*rename)(const nizwarf_req *req, uint64_t parent, const char *name, uint64_t newparent,
 		      const char *newname, uint32_t flags);
+	/* Creates another name, `newname` in `newparent`, for the node `ino`, which is not a directory. Fills
+	 * in `*e` for this node, with the new `nlink` in its attributes, and counts one lookup. It must
+	 * return EEXIST if the name exists, and EPERM if the file system has no hard links. ENOSYS has no
+	 * lasting effect. */
 	int (*link)(const nizwarf_req *req, uint64_t ino, uint64_t newparent, const char *newname,
 		    nizwarf_entry_param *e);
-	/* With O_TRUNC, where ATOMIC_O_TRUNC is agreed on, it cuts the file. Without it, and so
-	 * without this function, Linux cuts it by setattr. */
+	/* Opens a file that exists. `fi->flags` are those of open(2) without O_CREAT, O_EXCL and O_NOCTTY.
+	 * O_TRUNC is among them only if ATOMIC_O_TRUNC is negotiated; the function must then truncate the
+	 * file, and clear the set-ID bits if `req->call->has` has NIZWARF_KILL_SUIDGID. The function may set
+	 * `fi->fh`, `fi->open_flags` and `fi->backing_id`. Without default_permissions it must check the
+	 * access mode.
+	 *
+	 * With FUSE_WRITEBACK_CACHE Linux also reads files that are opened with O_WRONLY, and computes the
+	 * offset of writes with O_APPEND itself, so the function should ignore that flag. Each success is
+	 * followed by one release. If the reply does not fit, the library calls release itself.
+	 *
+	 * A NULL open succeeds with handle 0, and ATOMIC_O_TRUNC is not negotiated. ENOSYS has a lasting
+	 * effect: this and all later opens succeed with handle 0 and FOPEN_KEEP_CACHE, and Linux sends
+	 * neither open nor release any more, not even for files that create has opened. */
 	int (*open)(const nizwarf_req *req, uint64_t ino, nizwarf_file_info *fi);
+	/* Reads at most `size` bytes from `off` on into `buf`, and stores their number in `*len`. It must
+	 * fill in all `size` bytes unless the file ends before, because Linux takes a shorter reply for the
+	 * end of the file; a file that was opened with FOPEN_DIRECT_IO may return fewer. `buf` has undefined
+	 * contents; it lies in the reply buffer, so that nothing is copied. `size` is limited by this buffer.
+	 * If `*len` is larger than `size`, EIO is replied. ENOSYS has no lasting effect. */
 	int (*read)(const nizwarf_req *req, uint64_t ino, size_t size, uint64_t off,
 		    const nizwarf_file_info *fi, void *buf, size_t *len);
+	/* Writes `size` bytes of `buf` from `off` on, and stores in `*len` how many were written. It should
+	 * write all or return an error such as ENOSPC; write(2) returns a smaller number as it is. If `*len`
+	 * is larger than `size`, EIO is replied.
+	 *
+	 * If `fi->flags` have O_APPEND and FUSE_WRITEBACK_CACHE is not negotiated, the data should be
+	 * appended, because the file may have grown since Linux computed `off`. Bits of `req->call->has`:
+	 * NIZWARF_WRITE_CACHE, the data come from the page cache, so that the caller is not known and
+	 * `fi->fh` may be any open file of the node; NIZWARF_KILL_SUIDGID, the set-ID bits must be cleared.
+	 * ENOSYS has no lasting effect. */
 	int (*write)(const nizwarf_req *req, uint64_t ino, const void *buf, size_t size, uint64_t off,
 		     const nizwarf_file_info *fi, size_t *len);
+	/* A descriptor of an open file was closed (FLUSH). close(2) returns the result. A file that was
+	 * opened once may have many of them, because of dup(2) and fork(2), and descriptors that are closed
+	 * when a process ends count too. The function may report errors of earlier writes, and need not
+	 * synchronise anything. With setlk it must release all locks of fcntl(2) that `fi->lock_owner` has on
+	 * the node, because Linux sends no other request for that.
+	 *
+	 * ENOSYS, and so a NULL flush, has a lasting effect: close(2) succeeds, and Linux sends no flush any
+	 * more. A file that was opened with FOPEN_NOFLUSH has none either, unless FUSE_WRITEBACK_CACHE is
+	 * negotiated. */
 	int (*flush)(const nizwarf_req *req, uint64_t ino, const nizwarf_file_info *fi);
+	/* The last descriptor and the last mapping of an open file are gone (RELEASE). It is called once for
+	 * each success of open, create or tmpfile, unless the connection ends before; `fi->flags` are those
+	 * of the open file. Linux ignores the result, so errors should be reported by flush or fsync. The
+	 * node stays valid until it is forgotten, which happens later.
+	 *
+	 * If `req->call->has` has NIZWARF_RELEASE_FLOCK_UNLOCK, the function must release the lock of
+	 * flock(2) that `fi->lock_owner` has. The library calls it as well if the reply to open, create or
+	 * tmpfile did not reach the client. */
 	int (*release)(const nizwarf_req *req, uint64_t ino, const nizwarf_file_info *fi);
+	/* Writes a file to stable storage, for fsync(2) and fdatasync(2), and for O_SYNC. If `datasync` is
+	 * not 0, metadata that reading the data does not need may be left out. ENOSYS, and so a NULL fsync,
+	 * has a lasting effect: fsync(2) succeeds, and Linux sends no fsync for files any more. */
 	int (*fsync)(const nizwarf_req *req, uint64_t ino, int datasync, const nizwarf_file_info *fi);
+	/* Opens a directory. The function may set `fi->fh` and `fi->open_flags`: with FOPEN_CACHE_DIR Linux
+	 * caches the entries, and with FOPEN_KEEP_CACHE it keeps those of an earlier listing. Each success is
+	 * followed by one releasedir. A NULL opendir succeeds with handle 0.
+	 *
+	 * ENOSYS has a lasting effect since Linux 5.1: this and all later calls succeed, Linux sends neither
+	 * opendir nor releasedir any more, and it caches listings as with both flags. */
 	int (*opendir)(const nizwarf_req *req, uint64_t ino, nizwarf_file_info *fi);
+	/* Lists a directory, from the position `off` on: 0 is the beginning, any other is the `off` of the
+	 * entry that was returned last. Calls nizwarf_add_direntry for one entry after another until that
+	 * returns 0, which means that the reply is full, or the directory ends. If no entry is added, the
+	 * listing ends. Entries count no lookups. If the function returns an error, entries that it has added
+	 * are discarded.
+	 *
+	 * A position must stay usable while entries are created and removed: an entry that exists all the
+	 * time must be listed just once. So an index into a list that shrinks does not suffice. `.` and `..`
+	 * should be listed, because Linux does not add them. ENOSYS has no lasting effect. */
 	int (*readdir)(const nizwarf_req *req, uint64_t ino, uint64_t off, const nizwarf_file_info *fi,
 		       nizwarf_dir *dir);
+	/* Lists a directory as readdir does, with attributes: calls nizwarf_add_direntry_plus, which counts
+	 * one lookup of each entry's node except for `.` and `..`. Lookups of entries that do not reach the
+	 * client are dropped by forget. Linux sends it if FUSE_DO_READDIRPLUS is negotiated, and with
+	 * FUSE_READDIRPLUS_AUTO only where it seems of use: for the beginning of a directory, and while
+	 * programs look up the names that they have listed. So a table must have readdir too. A NULL
+	 * readdirplus clears both options. */
 	int (*readdirplus)(const nizwarf_req *req, uint64_t ino, uint64_t off, const nizwarf_file_info *fi,
 			   nizwarf_dir *dir);
+	/* An open directory was closed (RELEASEDIR). It is called once for each success of opendir. Linux
+	 * ignores the result. The library calls it as well if the reply to opendir did not reach the
+	 * client. */
 	int (*releasedir)(const nizwarf_req *req, uint64_t ino, const nizwarf_file_info *fi);
+	/* Writes the entries of a directory to stable storage, as fsync does. ENOSYS, and so a NULL fsyncdir,
+	 * has a lasting effect: fsync(2) of directories succeeds, and Linux sends no fsyncdir any more. */
 	int (*fsyncdir)(const nizwarf_req *req, uint64_t ino, int datasync, const nizwarf_file_info *fi);
+	/* Returns statistics of the file system, as statvfs(3) has them. `*stat` is preset to names of at
+	 * most 255 bytes and blocks of 512 bytes, and its other fields to 0; a NULL statfs returns that.
+	 * `ino` is any node of the file system. ENOSYS has no lasting effect. */
 	int (*statfs)(const nizwarf_req *req, uint64_t ino, nizwarf_statfs *stat);
+	/* Sets an extended attribute to the `size` bytes of `value`. With XATTR_CREATE in `flags` it must
+	 * return EEXIST if the attribute exists, and with XATTR_REPLACE ENODATA if it does not. With
+	 * FUSE_SETXATTR_EXT nizwarf_setxattr_ext_flags returns further flags of `req->call`. A file system
+	 * that does not support the name should return EOPNOTSUPP.
+	 *
+	 * ENOSYS, and so a NULL setxattr, has a lasting effect: this and all later calls fail with
+	 * EOPNOTSUPP, and Linux sends none any more. */
 	int (*setxattr)(const nizwarf_req *req, uint64_t ino, const char *name, const void *value,
 			size_t size, uint32_t flags);
-	/* Where `size` is 0, only `len` is asked for, here and in listxattr. */
+	/* Reads an extended attribute: into `value`, which has `size` bytes, and its length into `*len`. If
+	 * `size` is 0, only the length is requested, and nothing may be stored in `value`. If the attribute
+	 * is longer than `size`, ERANGE is replied, whether the function returns that or a larger `*len`. If
+	 * there is no such attribute, it must return ENODATA.
+	 *
+	 * ENOSYS, and so a NULL getxattr, has a lasting effect: this and all later calls fail with
+	 * EOPNOTSUPP, and Linux sends none any more. */
 	int (*getxattr)(const nizwarf_req *req, uint64_t ino, const char *name, size_t size, void *value,
 			size_t *len);
+	/* Lists the names of a node's extended attributes, each followed by a NUL, one after another. `size`
+	 * and `*len` are as in getxattr. Linux fails with EIO if an empty name is listed or the last NUL is
+	 * missing.
+	 *
+	 * ENOSYS, and so a NULL listxattr, has a lasting effect: this and all later calls fail with
+	 * EOPNOTSUPP, and Linux sends none any more. */
 	int (*listxattr)(const nizwarf_req *req, uint64_t ino, size_t size, char *list, size_t *len);
+	/* Removes an extended attribute. If there is no such attribute, it must return ENODATA. ENOSYS, and
+	 * so a NULL removexattr, has a lasting effect: this and all later calls fail with EOPNOTSUPP, and
+	 * Linux sends none any more. */
 	int (*removexattr)(const nizwarf_req *req, uint64_t ino, const char *name);
+	/* Checks whether the caller may access a node, for access(2) and chdir(2). `mask` is a combination of
+	 * R_OK, W_OK and X_OK, or F_OK. It must return EACCES if not. It is called only without
+	 * default_permissions, and not before other operations, which must check permissions themselves.
+	 * ENOSYS, and so a NULL access, has a lasting effect: this and all later calls succeed, and Linux
+	 * sends none any more. */
 	int (*access)(const nizwarf_req *req, uint64_t ino, uint32_t mask);
+	/* Creates and opens a regular file, for open(2) with O_CREAT. Linux sends it if its lookup found no
+	 * such name. The name may exist nevertheless, because another client may have created it since. With
+	 * O_EXCL in `fi->flags` the function must then return EEXIST; without O_EXCL it must open the
+	 * existing file, and truncate it with O_TRUNC.
+	 *
+	 * `mode` has the file type S_IFREG and the permissions; the umask is handled as in mknod. `fi` is
+	 * used as in open, with all flags of open(2) except O_NOCTTY. Fills in `*e` as lookup does, for a
+	 * regular file, and counts one lookup; Linux sends release before it forgets that. If the reply does
+	 * not fit, the library calls release and then forget.
+	 *
+	 * ENOSYS, and so a NULL create, has a lasting effect: Linux sends mknod and then open instead, for
+	 * this and all later files. */
 	int (*create)(const nizwarf_req *req, uint64_t parent, const char *name, uint32_t mode,
 		      nizwarf_file_info *fi, nizwarf_entry_param *e);
+	/* Allocates or frees space of a file, as fallocate(2). `mode` is 0, which also extends a file that is
+	 * shorter, or a combination of FALLOC_FL_KEEP_SIZE, FALLOC_FL_PUNCH_HOLE and FALLOC_FL_ZERO_RANGE;
+	 * Linux sends no other bits. For a mode that the file system does not support it should return
+	 * EOPNOTSUPP. ENOSYS, and so a NULL fallocate, has a lasting effect: this and all later calls fail
+	 * with EOPNOTSUPP, and Linux sends none any more. */
 	int (*fallocate)(const nizwarf_req *req, uint64_t ino, uint32_t mode, uint64_t offset,
 			 uint64_t length, const nizwarf_file_info *fi);
+	/* Finds data or a hole of a file. `whence` is SEEK_DATA or SEEK_HOLE; Linux handles the others
+	 * itself. Stores the offset of the next one, at or after `off`, in `*found`; the end of the file
+	 * counts as a hole. It must return ENXIO if `off` is not before the end of the file, or if there is
+	 * no more data. ENOSYS, and so a NULL lseek, has a lasting effect: Linux then treats each file as
+	 * data without holes. */
 	int (*lseek)(const nizwarf_req *req, uint64_t ino, uint64_t off, uint32_t whence,
 		     const nizwarf_file_info *fi, uint64_t *found);
-	/* `size` is at most NIZWARF_MOST_COPIED if the kernel asked by opcode 47, because the reply to that has 32
-	 * bits for the count; by opcode 53 it is any. */
+	/* Copies at most `size` bytes between two files, or two places of one file, and stores in `*len` how
+	 * many were copied: fewer, if the source ends before, and then the caller of copy_file_range(2)
+	 * continues. `flags` are those of copy_file_range(2), 0 in Linux today. If `*len` is larger than
+	 * `size`, EIO is replied.
+	 *
+	 * Up to Linux 6.17 `size` is at most NIZWARF_MAX_COPY, because the reply to opcode 47 has 32 bits
+	 * for the number; opcode 53 of later versions has 64. For files that it cannot copy the function
+	 * should return EOPNOTSUPP or EXDEV: Linux then reads and writes the data itself. ENOSYS, and so a
+	 * NULL copy_file_range, does the same for all files, and Linux sends none any more. */
 	int (*copy_file_range)(const nizwarf_req *req, uint64_t ino_in, uint64_t off_in,
 			       const nizwarf_file_info *fi_in, uint64_t ino_out, uint64_t off_out,
 			       const nizwarf_file_info *fi_out, uint64_t size, uint64_t flags, size_t *len);
+	/* Writes the whole file system to stable storage, for sync(2) and syncfs(2). Linux sends it over
+	 * virtio-fs, and not for an ordinary mount of /dev/fuse. ENOSYS, and so a NULL syncfs, has a lasting
+	 * effect: syncfs(2) succeeds, and Linux sends none any more. */
 	int (*syncfs)(const nizwarf_req *req, uint64_t ino);
-	/* Who waits for the request of this number, `call->unique`, wants no longer to: a call of it that
-	 * goes on may end, by EINTR. It comes on another thread, perhaps before that call, or after: see
-	 * nizwarf_interrupts. */
+	/* The caller of the request `unique` (`call->unique`) was interrupted by a signal (INTERRUPT). A call
+	 * that is in progress or deferred may then return EINTR early; otherwise the caller goes on waiting
+	 * for its reply. The function may be called on any thread, after the call has ended, or before it has
+	 * begun: see nizwarf_interrupts. Linux sends it through /dev/fuse only, not over virtio-fs. */
 	void (*interrupt)(void *user, uint64_t unique);
-	/* In place of init: what it may agree on besides. */
+	/* Begins a session, in place of init, which is not called then. It may negotiate further parameters:
+	 * see nizwarf_conn_info. All rules of init apply to `conn->want`. */
 	int (*conn)(const nizwarf_req *req, nizwarf_conn_info *conn);
-	/* At most NIZWARF_MOST_FORGETS at a time. */
+	/* Drops lookups of several nodes (BATCH_FORGET), in place of forget, and with the same rules. `count`
+	 * is at most NIZWARF_MAX_FORGETS; a longer request is passed in several calls. */
 	void (*forget_multi)(const nizwarf_req *req, size_t count, const nizwarf_forget *forgets);
-	/* Locks of fcntl(2), if `init` added FUSE_POSIX_LOCKS to `*want`: otherwise Linux keeps them
-	 * itself, and asks for none. `fi->lock_owner` is who asks. getlk answers in `lock` one that is in
-	 * the way, or F_UNLCK as its type. With `sleep`, setlk waits until it has the lock: it answers
-	 * later, or holds the thread. A close of a file is a flush, which gives up all that its
-	 * owner has of that file. */
+	/* Tests for a lock of fcntl(2), for F_GETLK. `*lock` is preset to the requested lock;
+	 * `fi->lock_owner` is its owner. The function must replace `*lock` by a conflicting lock of another
+	 * owner, or set its `type` to F_UNLCK if no lock conflicts. The library enables it if the table has
+	 * setlk too, and Linux sends it if init has set FUSE_POSIX_LOCKS. ENOSYS has no lasting effect. */
 	int (*getlk)(const nizwarf_req *req, uint64_t ino, const nizwarf_file_info *fi, nizwarf_lock *lock);
+	/* Sets or releases a lock of fcntl(2). `lock->type` is F_RDLCK, F_WRLCK or F_UNLCK. The locks of one
+	 * owner, `fi->lock_owner`, are merged and split as POSIX requires. If another owner has a conflicting
+	 * lock and `sleep` is 0, it must return EAGAIN. If `sleep` is not 0 (F_SETLKW), it must wait for the
+	 * lock: it should return NIZWARF_LATER, because waiting in the function blocks a thread, and must end
+	 * with EINTR when interrupt names the request, because the caller goes on waiting otherwise. F_UNLCK
+	 * never waits. The function may return EDEADLK; Linux does not detect deadlocks between these locks.
+	 *
+	 * A table with setlk must have getlk, and flush, which releases all locks of an owner. Linux sends
+	 * setlk if init has set FUSE_POSIX_LOCKS, and otherwise keeps locks itself. ENOSYS has no lasting
+	 * effect. */
 	int (*setlk)(const nizwarf_req *req, uint64_t ino, const nizwarf_file_info *fi,
 		     const nizwarf_lock *lock, int sleep);
-	/* Locks of flock(2), if `init` added FUSE_FLOCK_LOCKS likewise. `op` is LOCK_SH, LOCK_EX or
-	 * LOCK_UN, with LOCK_NB where it does not wait. A release with NIZWARF_FLOCK_RELEASE in
-	 * `req->call->has` gives the lock up. */
+	/* Sets or releases a lock of flock(2), on the whole file. `op` is LOCK_SH, LOCK_EX or LOCK_UN, with
+	 * LOCK_NB if the function must return EWOULDBLOCK instead of waiting. The owner, `fi->lock_owner`, is
+	 * the open file. It must drop the lock in release, if `req->call->has` has
+	 * NIZWARF_RELEASE_FLOCK_UNLOCK there. Linux sends flock if init has set FUSE_FLOCK_LOCKS, and
+	 * otherwise keeps these locks itself. Waiting is as in setlk. */
 	int (*flock)(const nizwarf_req *req, uint64_t ino, const nizwarf_file_info *fi, int op);
-	/* Linux asks it of block devices alone (fuseblk). */
+	/* Maps block `idx` of a file, of `blocksize` bytes, to a block of the device, in `*block`. Linux
+	 * sends it for block devices (fuseblk) only. An error, and a NULL bmap, means that the block is not
+	 * mapped. ENOSYS has a lasting effect: Linux sends none any more. */
 	int (*bmap)(const nizwarf_req *req, uint64_t ino, size_t blocksize, uint64_t idx, uint64_t *block);
-	/* `flags` are FUSE_IOCTL_COMPAT .., `out` is what ioctl(2) returns, and `out_buf` has room for
-	 * `out_size` bytes, of which `*len` are handed out. */
+	/* Carries out ioctl(2) with the request `cmd` and the argument `arg`. `in_buf` has the `in_size`
+	 * bytes that the caller passes; at most `out_size` bytes may be stored in `out_buf`, and their number
+	 * in `*len`; more are replied as EIO. Linux takes both sizes from the direction and size in `cmd`, so
+	 * `arg` must not be followed as a pointer. `out->result` is the return value of ioctl(2). `flags` has
+	 * FUSE_IOCTL_COMPAT for a 32-bit caller, and FUSE_IOCTL_DIR for a directory.
+	 *
+	 * For an unknown `cmd` it must return ENOTTY. ENOSYS becomes ENOTTY, and has no lasting effect. */
 	int (*ioctl)(const nizwarf_req *req, uint64_t ino, uint32_t cmd, uint64_t arg,
 		     const nizwarf_file_info *fi, uint32_t flags, const void *in_buf, size_t in_size,
 		     nizwarf_ioctl *out, void *out_buf, size_t out_size, size_t *len);
-	/* `events` are waited for, and `*revents` there. With `notify`, a notice of the number `kh` is to come
-	 * when that changes: nizwarf_notice_poll. */
+	/* Returns in `*revents` which of `events`, POLLIN and others of poll(2), are ready. If `notify` is
+	 * not 0, the caller waits: when an event becomes ready, the program must send nizwarf_notice_poll
+	 * with `kh`, which identifies the open file. One notice per change suffices, and it may be sent even
+	 * if nobody waits. The function itself must not wait. Other errors than ENOSYS are reported to the
+	 * caller as POLLERR.
+	 *
+	 * ENOSYS, and so a NULL poll, has a lasting effect: Linux then reports each file as readable and
+	 * writable. */
 	int (*poll)(const nizwarf_req *req, uint64_t ino, const nizwarf_file_info *fi, uint32_t events,
 		    uint64_t kh, int notify, uint32_t *revents);
-	/* A file without a name in this directory, opened with O_TMPFILE. */
+	/* Creates and opens a file without a name in the file system of the directory `parent`, for open(2)
+	 * with O_TMPFILE (Linux 6.2 and later). `nlink` in its attributes is 0. `mode`, `fi` and `*e` are as
+	 * in create. A later link may give it a name, unless `fi->flags` have O_EXCL. ENOSYS, and so a NULL
+	 * tmpfile, has a lasting effect: this and all later calls fail with EOPNOTSUPP, and Linux sends none
+	 * any more. */
 	int (*tmpfile)(const nizwarf_req *req, uint64_t parent, uint32_t mode, nizwarf_file_info *fi,
 		       nizwarf_entry_param *e);
-	/* `fi` is NULL where the file isn't open. `mask` is what is asked for, statx->mask what is there. */
+	/* Returns attributes for statx(2), of which `mask` says which are requested and `flags`,
+	 * AT_STATX_SYNC_TYPE, how current they must be. The function must set the bits of the fields that it
+	 * has filled in in `statx->mask`, and may set `*timeout`. `fi` is NULL unless the request names an
+	 * open file. Linux 6.6 and later sends it when the birth time is requested, and getattr otherwise.
+	 * ENOSYS, and so a NULL statx, has a lasting effect: Linux sends getattr only. */
 	int (*statx)(const nizwarf_req *req, uint64_t ino, uint32_t flags, uint32_t mask,
 		     const nizwarf_file_info *fi, nizwarf_statx *statx, struct timespec *timeout);
-	/* What a notice of this number, `cookie`, wanted: nizwarf_notice_retrieve. */
+	/* Passes the data that nizwarf_notice_retrieve has requested: `cookie` is its `unique`. `size` is
+	 * less than requested, or 0, if Linux does not have all of the data in its cache. There is no
+	 * reply. */
 	void (*retrieve_reply)(const nizwarf_req *req, uint64_t cookie, uint64_t ino, uint64_t offset,
 			       const void *data, size_t size);
-	/* A function of the table returned this `error`, which Linux would refuse: it is below 0, or above
-	 * NIZWARF_LAST_ERROR. EIO is replied in its place. A program should log the first one, because its users
-	 * see EIO alone: hello.c does so. It may be called on any thread that replies. */
+	/* A function of the table, or nizwarf_finish_ops, has returned `error`, which is no error number of
+	 * Linux: it is below 0, such as -ENOENT, or above NIZWARF_MAX_ERRNO. EIO is replied in its place. A
+	 * program should log the first one, because its users see EIO alone: hello.c does so. It may be
+	 * called on any thread. */
 	void (*bad_error)(void *user, const nizwarf_call *call, int error);
 } nizwarf_ops;
 
-struct nizwarf_dir {
-	const nizwarf_ops *ops;
-	const nizwarf_req *req;
-	nizwarf_item *items;
-	size_t len, most;
-	/* Where the next name is copied to, and how many bytes of records there is room for. */
-	uint8_t *names;
-	size_t left;
-};
-
-/* Options of INIT: FUSE_ASYNC_READ .. of linux/fuse.h, which may lack the last one. */
+/* Options of INIT, by the names of linux/fuse.h: FUSE_DO_READDIRPLUS and FUSE_READDIRPLUS_AUTO,
+ * FUSE_ATOMIC_O_TRUNC, and FUSE_ALLOW_IDMAP, which older headers lack. */
 enum { NIZWARF_WANT_READDIRPLUS = 3 << 13 };
 #define NIZWARF_WANT_ATOMIC_O_TRUNC (UINT64_C(1) << 3)
 #define NIZWARF_WANT_ALLOW_IDMAP (UINT64_C(1) << 40)
-/* ASYNC_READ, ATOMIC_O_TRUNC, BIG_WRITES, AUTO_INVAL_DATA, ASYNC_DIO, PARALLEL_DIROPS, MAX_PAGES,
- * SUBMOUNTS, INIT_EXT and CREATE_SUPP_GROUP. */
-#define NIZWARF_WANT_USUAL UINT64_C(0x448449029)
-
-/* The longest link that Linux takes. */
-enum { NIZWARF_LONGEST_LINK = 4095 };
-
-/* The most that one COPY_FILE_RANGE of opcode 47 copies, in bytes: the largest count that its reply can hold, in
- * whole pages. copy_file_range(2) returns that count, and its caller goes on with what is left. */
-#define NIZWARF_MOST_COPIED UINT32_C(0xfffff000)
-
-/* What a table serves of options. HAS_INODE_DAX it does not; POSIX_LOCKS takes `getlk` and `setlk`,
- * FLOCK_LOCKS `flock`, HAS_IOCTL_DIR `ioctl`, ATOMIC_O_TRUNC `open`, READDIRPLUS `readdirplus`,
- * WRITEBACK_CACHE `write`, and SETXATTR_EXT `setxattr`. */
-static inline uint64_t nizwarf_served(const nizwarf_ops *ops, uint64_t options)
-{
-	options &= ~(UINT64_C(1) << 33);
-	if (!ops->getlk || !ops->setlk)
-		options &= ~(UINT64_C(1) << 1);
-	if (!ops->flock)
-		options &= ~(UINT64_C(1) << 10);
-	if (!ops->ioctl)
-		options &= ~(UINT64_C(1) << 11);
-	if (!ops->open)
-		options &= ~NIZWARF_WANT_ATOMIC_O_TRUNC;
-	if (!ops->readdirplus)
-		options &= ~(uint64_t)NIZWARF_WANT_READDIRPLUS;
-	if (!ops->write)
-		options &= ~(UINT64_C(1) << 16);
-	if (!ops->setxattr)
-		options &= ~(UINT64_C(1) << 29);
-	return options;
-}
-
-/* The rows that a table offers. */
-static inline uint32_t nizwarf_offers_of(const nizwarf_ops *ops)
-{
-	uint32_t offers = 0;
-
-	if ((ops->getlk && ops->setlk) || ops->flock)
-		offers |= NIZWARF_OFFER_LOCKS;
-	if (ops->bmap)
-		offers |= NIZWARF_OFFER_BMAP;
-	if (ops->ioctl)
-		offers |= NIZWARF_OFFER_IOCTL;
-	if (ops->poll)
-		offers |= NIZWARF_OFFER_POLL;
-	if (ops->statx)
-		offers |= NIZWARF_OFFER_STATX;
-	if (ops->copy_file_range)
-		offers |= NIZWARF_OFFER_COPY_64;
-	if (ops->tmpfile)
-		offers |= NIZWARF_OFFER_TMPFILE;
-	if (ops->retrieve_reply)
-		offers |= NIZWARF_OFFER_NOTIFY_REPLY;
-	if (ops->conn)
-		offers |= NIZWARF_OFFER_INIT;
-	return offers;
-}
-
-/* A time of that many seconds: 0, if it is less or no number. */
-static inline struct timespec nizwarf_timeout(double seconds)
-{
-	struct timespec time = { 0, 0 };
-
-	if (seconds >= 9223372036854775808.0) {
-		time.tv_sec = (time_t)INT64_MAX;
-	} else if (seconds > 0) {
-		time.tv_sec = (time_t)seconds;
-		time.tv_nsec = (long)((seconds - (double)time.tv_sec) * 1e9);
-	}
-	return time;
-}
-
-/* Attributes as stat(2) tells them. */
-static inline nizwarf_attr nizwarf_attr_of(const struct stat *st)
-{
-	nizwarf_attr attr;
-
-	memset(&attr, 0, sizeof(attr));
-	attr.ino = st->st_ino;
-	attr.size = (uint64_t)st->st_size;
-	attr.blocks = (uint64_t)st->st_blocks;
-	attr.mode = st->st_mode;
-	attr.nlink = (uint32_t)st->st_nlink;
-	attr.uid = st->st_uid;
-	attr.gid = st->st_gid;
-	attr.rdev = (uint32_t)st->st_rdev;
-	attr.blksize = (uint32_t)st->st_blksize;
-	attr.atime = (uint64_t)st->st_atime;
-	attr.mtime = (uint64_t)st->st_mtime;
-	attr.ctime = (uint64_t)st->st_ctime;
-	/* (before POSIX.1-2008 seconds are fields, and so are nanoseconds) */
-#ifdef st_atime
-	attr.atimensec = (uint32_t)st->st_atim.tv_nsec;
-	attr.mtimensec = (uint32_t)st->st_mtim.tv_nsec;
-	attr.ctimensec = (uint32_t)st->st_ctim.tv_nsec;
-#else
-	attr.atimensec = (uint32_t)st->st_atimensec;
-	attr.mtimensec = (uint32_t)st->st_mtimensec;
-	attr.ctimensec = (uint32_t)st->st_ctimensec;
-#endif
-	return attr;
-}
-
-/* What a file system holds, as statvfs(3) tells it. */
-static inline nizwarf_statfs nizwarf_statfs_of(const struct statvfs *st)
-{
-	nizwarf_statfs statfs;
-
-	statfs.bsize = st->f_bsize;
-	statfs.frsize = st->f_frsize;
-	statfs.blocks = st->f_blocks;
-	statfs.bfree = st->f_bfree;
-	statfs.bavail = st->f_bavail;
-	statfs.files = st->f_files;
-	statfs.ffree = st->f_ffree;
-	statfs.namemax = st->f_namemax;
-	return statfs;
-}
-
-/* The two parts of a time as a reply has them: no part is below 0, and of nanoseconds there are less than a
- * second. */
-static inline uint64_t nizwarf_seconds_of(struct timespec time)
-{
-	return time.tv_sec < 0 ? 0 : (uint64_t)time.tv_sec;
-}
-
-static inline uint32_t nizwarf_nanoseconds_of(struct timespec time)
-{
-	if (time.tv_sec < 0 || time.tv_nsec < 0)
-		return 0;
-	return time.tv_nsec > 999999999 ? 999999999 : (uint32_t)time.tv_nsec;
-}
-
-/* Whether a name is that of a directory itself, or of the one above: of these a reply gives no lookup. */
-static inline int nizwarf_is_dot(const char *name)
-{
-	return !strcmp(name, ".") || !strcmp(name, "..");
-}
-
-/* An entry as the door takes it. */
-static inline nizwarf_entry nizwarf_entry_of(const nizwarf_entry_param *e)
-{
-	nizwarf_entry entry;
-
-	entry.node = e->ino;
-	entry.generation = e->generation;
-	entry.entry_seconds = nizwarf_seconds_of(e->entry_timeout);
-	entry.attr_seconds = nizwarf_seconds_of(e->attr_timeout);
-	entry.entry_nanoseconds = nizwarf_nanoseconds_of(e->entry_timeout);
-	entry.attr_nanoseconds = nizwarf_nanoseconds_of(e->attr_timeout);
-	entry.attr = e->attr;
-	return entry;
-}
-
-/* Gives a lookup back. Of node 0 there is none. */
-static inline void nizwarf_give_back(const nizwarf_dir *dir, uint64_t ino)
-{
-	if (ino && dir->ops->forget)
-		dir->ops->forget(dir->req, ino, 1);
-}
-
-/* Adds an item, whose name is copied into the room: 0 if there is no more, by the number of items or by the
- * bytes of their records. A record is longer than the name in it, so names that fit as records fit as
- * names; and the reply is made from them before it is put over them. */
-static inline int nizwarf_add_item(nizwarf_dir *dir, const char *name, nizwarf_item *item, int plus)
-{
-	size_t size;
-
-	item->name = dir->names;
-	item->name_size = strlen(name) + 1;
-	size = nizwarf_record_size(item->name_size, plus);
-	if (dir->len == dir->most || size > dir->left)
-		return 0;
-	memcpy(dir->names, name, item->name_size);
-	dir->names += item->name_size;
-	dir->left -= size;
-	dir->items[dir->len++] = *item;
-	return 1;
-}
-
-/* Adds an item for readdir. `type` is DT_REG .. of dirent.h, or 0, `off` that of a reading that goes on after
- * it, and not 0, which is that of the beginning. 0: it wasn't added, since there is no more room. */
-static inline int nizwarf_add_direntry(nizwarf_dir *dir, const char *name, uint64_t ino, uint32_t type,
-				       uint64_t off)
-{
-	nizwarf_item item;
-
-	memset(&item, 0, sizeof(item));
-	item.ino = ino;
-	item.offset = off;
-	item.type = type;
-	return nizwarf_add_item(dir, name, &item, 0);
-}
-
-/* Adds an item for readdirplus, with what a lookup of the name answers; of `.` and `..` only their
- * attributes are looked at. 0: it wasn't added, since there is no more room, and was given back: by
- * `forget`, which is called here. In readdir, whose reply has no entries, each is given back. */
-static inline int nizwarf_add_direntry_plus(nizwarf_dir *dir, const char *name, const nizwarf_entry_param *e,
-					    uint64_t off)
-{
-	const uint64_t held = nizwarf_is_dot(name) ? 0 : e->ino;
-	const int plus = (dir->req->call->has & NIZWARF_PLUS) != 0;
-	nizwarf_item item;
-	int is_added;
-
-	memset(&item, 0, sizeof(item));
-	item.ino = e->attr.ino;
-	item.offset = off;
-	/* (the type of a file, S_IFMT of its mode, as DT_REG ..) */
-	item.type = e->attr.mode >> 12 & 15;
-	item.entry = nizwarf_entry_of(e);
-	item.entry.node = plus ? held : 0;
-	is_added = nizwarf_add_item(dir, name, &item, plus);
-	if (!is_added || !plus)
-		nizwarf_give_back(dir, held);
-	return is_added;
-}
-
-/* From here on to nizwarf_serve_ops: how a call is made by the table, by the kind of its answer. A function
- * that is not there is ENOSYS; a name is a range of the request, which the door has checked: it lies there,
- * and ends with its only 0. */
-#define NIZWARF_DO(op, ...) (ops->op ? ops->op(req, __VA_ARGS__) : ENOSYS)
-#define NIZWARF_NAME(range) ((const char *)req->request + (range).at)
-
-/* Whether `flags` of the call are those of open(2). */
-static inline int nizwarf_has_open_flags(uint32_t call)
-{
-	switch (call) {
-	case NIZWARF_SETATTR:
-	case NIZWARF_GETLK:
-	case NIZWARF_SETLK:
-	case NIZWARF_SETLKW:
-	case NIZWARF_IOCTL:
-	case NIZWARF_POLL:
-	case NIZWARF_STATX:
-		return 0;
-	default:
-		return 1;
-	}
-}
-
-/* What a call says of an open file. What it doesn't have is 0. */
-static inline nizwarf_file_info nizwarf_file_of(const nizwarf_call *call)
-{
-	nizwarf_file_info fi;
-
-	fi.fh = call->handle;
-	/* (of these two calls the fields say something else) */
-	fi.lock_owner = call->call == NIZWARF_COPY || call->call == NIZWARF_COPY_64 ? 0 : call->lock_owner;
-	fi.flags = nizwarf_has_open_flags(call->call) ? call->flags : 0;
-	fi.open_flags = 0;
-	fi.backing_id = fi.padding = 0;
-	return fi;
-}
-
-/* BATCH_FORGET. The door has checked that the request has as many pairs as it says; each is two words of 8
- * bytes, as a nizwarf_forget. They may be many, and are handed on in parts. */
-static inline void nizwarf_do_forgets(const nizwarf_ops *ops, const nizwarf_req *req)
-{
-	const uint64_t count = nizwarf_batch_forget_pairs(req->call);
-	const uint8_t *pairs = req->request + req->call->data.at;
-	nizwarf_forget forgets[NIZWARF_MOST_FORGETS];
-	uint64_t done;
-	size_t some, i;
-
-	for (done = 0; done < count; done += some) {
-		some = count - done < NIZWARF_MOST_FORGETS ? (size_t)(count - done) :
-							     (size_t)NIZWARF_MOST_FORGETS;
-		memcpy(forgets, pairs + sizeof(*forgets) * done, sizeof(*forgets) * some);
-		if (ops->forget_multi)
-			ops->forget_multi(req, some, forgets);
-		else if (ops->forget)
-			for (i = 0; i < some; i++)
-				ops->forget(req, forgets[i].ino, forgets[i].nlookup);
-	}
-}
-
-/* What has no reply, and so no error: DESTROY, FORGET, BATCH_FORGET and NOTIFY_REPLY. */
-static inline int nizwarf_do_quiet(const nizwarf_ops *ops, const nizwarf_req *req)
-{
-	const nizwarf_call *c = req->call;
-
-	if (c->call == NIZWARF_DESTROY && ops->destroy)
-		ops->destroy(req);
-	if (c->call == NIZWARF_FORGET && ops->forget)
-		ops->forget(req, c->node, nizwarf_forget_lookups(c));
-	if (c->call == NIZWARF_BATCH_FORGET)
-		nizwarf_do_forgets(ops, req);
-	if (c->call == NIZWARF_NOTIFY_REPLY && ops->retrieve_reply)
-		ops->retrieve_reply(req, c->unique, c->node, c->offset, req->request + c->data.at,
-				    (size_t)c->data.len);
-	return 0;
-}
-
-/* SETLK and SETLKW, of both kinds of locks: the request says by a flag that it is one of flock(2), of a
- * whole file, whose kinds are those of fcntl(2) there. */
-static inline int nizwarf_do_lock(const nizwarf_ops *ops, const nizwarf_req *req)
-{
-	const nizwarf_call *c = req->call;
-	const nizwarf_file_info fi = nizwarf_file_of(c);
-	const nizwarf_lock lock = nizwarf_lock_asked(c);
-	const int sleep = c->call == NIZWARF_SETLKW;
-	int op = LOCK_UN;
-
-	if (!(c->has & NIZWARF_HAS_FLOCK))
-		return NIZWARF_DO(setlk, c->node, &fi, &lock, sleep);
-	if (lock.type != F_UNLCK)
-		op = (lock.type == F_RDLCK ? LOCK_SH : LOCK_EX) | (sleep ? 0 : LOCK_NB);
-	return NIZWARF_DO(flock, c->node, &fi, op);
-}
-
-/* What is answered by an error or 0 alone. Without a function a release is done all the same, as the open
- * was. */
-static inline int nizwarf_do_done(const nizwarf_ops *ops, const nizwarf_req *req)
-{
-	const nizwarf_call *c = req->call;
-	const nizwarf_file_info fi = nizwarf_file_of(c);
-	const char *name = NIZWARF_NAME(c->name);
-	const int datasync = (c->has & NIZWARF_DATASYNC) != 0;
-
-	switch (c->call) {
-	case NIZWARF_UNLINK:
-		return NIZWARF_DO(unlink, c->node, name);
-	case NIZWARF_RMDIR:
-		return NIZWARF_DO(rmdir, c->node, name);
-	case NIZWARF_RENAME:
-		return NIZWARF_DO(rename, c->node, name, c->other_node, NIZWARF_NAME(c->other_name),
-				  c->flags);
-	case NIZWARF_RELEASE:
-		return ops->release ? ops->release(req, c->node, &fi) : 0;
-	case NIZWARF_FSYNC:
-		return NIZWARF_DO(fsync, c->node, datasync, &fi);
-	case NIZWARF_SETXATTR:
-		return NIZWARF_DO(setxattr, c->node, name, req->request + c->data.at, (size_t)c->data.len,
-				  c->flags);
-	case NIZWARF_REMOVEXATTR:
-		return NIZWARF_DO(removexattr, c->node, name);
-	case NIZWARF_FLUSH:
-		return NIZWARF_DO(flush, c->node, &fi);
-	case NIZWARF_RELEASEDIR:
-		return ops->releasedir ? ops->releasedir(req, c->node, &fi) : 0;
-	case NIZWARF_FSYNCDIR:
-		return NIZWARF_DO(fsyncdir, c->node, datasync, &fi);
-	case NIZWARF_ACCESS:
-		return NIZWARF_DO(access, c->node, nizwarf_access_mask(c));
-	case NIZWARF_FALLOCATE:
-		return NIZWARF_DO(fallocate, c->node, c->mode, c->offset, c->length, &fi);
-	case NIZWARF_SYNCFS:
-		return NIZWARF_DO(syncfs, c->node);
-	case NIZWARF_SETLK:
-	case NIZWARF_SETLKW:
-		return nizwarf_do_lock(ops, req);
-	default:
-		return ENOSYS;
-	}
-}
-
-/* What answers an entry. With an error the entry is not looked at. */
-static inline int nizwarf_do_entry(const nizwarf_ops *ops, const nizwarf_req *req, nizwarf_answer *answer)
-{
-	const nizwarf_call *c = req->call;
-	const char *name = NIZWARF_NAME(c->name);
-	nizwarf_entry_param e;
-	int error = ENOSYS;
-
-	memset(&e, 0, sizeof(e));
-	switch (c->call) {
-	case NIZWARF_LOOKUP:
-		error = NIZWARF_DO(lookup, c->node, name, &e);
-		break;
-	case NIZWARF_SYMLINK:
-		error = NIZWARF_DO(symlink, NIZWARF_NAME(nizwarf_symlink_text(c)), c->node, name, &e);
-		break;
-	case NIZWARF_MKNOD:
-		error = NIZWARF_DO(mknod, c->node, name, c->mode, c->rdev, &e);
-		break;
-	case NIZWARF_MKDIR:
-		error = NIZWARF_DO(mkdir, c->node, name, c->mode, &e);
-		break;
-	case NIZWARF_LINK:
-		error = NIZWARF_DO(link, c->node, c->other_node, name, &e);
-		break;
-	}
-	answer->entry = nizwarf_entry_of(&e);
-	return error;
-}
-
-/* GETATTR and SETATTR, which answer attributes and how long they hold. */
-static inline int nizwarf_do_attr(const nizwarf_ops *ops, const nizwarf_req *req, nizwarf_answer *answer)
-{
-	const nizwarf_call *c = req->call;
-	const nizwarf_file_info fi = nizwarf_file_of(c);
-	const nizwarf_file_info *open = c->has & NIZWARF_HAS_HANDLE ? &fi : NULL;
-	struct timespec timeout = { 0, 0 };
-	int error = ENOSYS;
-
-	if (c->call == NIZWARF_GETATTR)
-		error = NIZWARF_DO(getattr, c->node, open, &answer->entry.attr, &timeout);
-	else if (c->call == NIZWARF_SETATTR)
-		error = NIZWARF_DO(setattr, c->node, &c->attr, nizwarf_setattr_fields(c), open,
-				   &answer->entry.attr, &timeout);
-	answer->entry.attr_seconds = nizwarf_seconds_of(timeout);
-	answer->entry.attr_nanoseconds = nizwarf_nanoseconds_of(timeout);
-	return error;
-}
-
-/* OPEN and OPENDIR, which are done where they are not in the table, CREATE and TMPFILE. The answer has a
- * handle in any case, and so nizwarf_do_release knows that something was opened. */
-static inline int nizwarf_do_open(const nizwarf_ops *ops, const nizwarf_req *req, nizwarf_answer *answer)
-{
-	const nizwarf_call *c = req->call;
-	nizwarf_file_info fi = nizwarf_file_of(c);
-	nizwarf_entry_param e;
-	int error = 0;
-
-	memset(&e, 0, sizeof(e));
-	if (c->call == NIZWARF_CREATE)
-		error = NIZWARF_DO(create, c->node, NIZWARF_NAME(c->name), c->mode, &fi, &e);
-	else if (c->call == NIZWARF_TMPFILE)
-		error = NIZWARF_DO(tmpfile, c->node, c->mode, &fi, &e);
-	else if (c->call == NIZWARF_OPENDIR)
-		error = ops->opendir ? ops->opendir(req, c->node, &fi) : 0;
-	else if (ops->open)
-		error = ops->open(req, c->node, &fi);
-	answer->entry = nizwarf_entry_of(&e);
-	answer->has_handle = 1;
-	answer->handle = fi.fh;
-	answer->open_flags = fi.open_flags;
-	nizwarf_answer_backing(answer, fi.backing_id);
-	return error;
-}
-
-/* READ, and what answers a text: it is put where it has its place in the reply. A function is told of no
- * more bytes than there are, and if it tells of more than that it is an error: nothing after them is sent.
- * Where an attribute's size is 0 no bytes are put, and how many there are is the answer. */
-static inline int nizwarf_do_data(const nizwarf_ops *ops, const nizwarf_req *req, uint8_t *room, size_t space,
-				  nizwarf_answer *answer)
-{
-	const nizwarf_call *c = req->call;
-	const nizwarf_file_info fi = nizwarf_file_of(c);
-	const size_t most = c->call == NIZWARF_READLINK ? (size_t)NIZWARF_LONGEST_LINK : c->size;
-	const size_t size = most < space ? most : space;
-	size_t len = 0;
-	int error = ENOSYS;
-
-	switch (c->call) {
-	case NIZWARF_READ:
-		error = NIZWARF_DO(read, c->node, size, c->offset, &fi, room, &len);
-		break;
-	case NIZWARF_READLINK:
-		error = NIZWARF_DO(readlink, c->node, (char *)room, size, &len);
-		break;
-	case NIZWARF_GETXATTR:
-		error = NIZWARF_DO(getxattr, c->node, NIZWARF_NAME(c->name), size, room, &len);
-		break;
-	case NIZWARF_LISTXATTR:
-		error = NIZWARF_DO(listxattr, c->node, size, (char *)room, &len);
-		break;
-	}
-	answer->count = len;
-	answer->text = room;
-	if (c->answer == NIZWARF_TEXT_OR_COUNT && !c->size)
-		answer->has_count = 1;
-	else if (len <= size)
-		answer->text_len = len;
-	else if (!error)
-		error = c->answer == NIZWARF_TEXT_OR_COUNT ? ERANGE : EIO;
-	return error;
-}
-
-/* What answers a record: it is put where it has its place in the reply. It is filled in here and copied,
- * since the room is aligned in no way. After an IOCTL's record come its bytes. With an error nothing is put: a call
- * that is answered later may have its reply in that room already. */
-static inline int nizwarf_do_record(const nizwarf_ops *ops, const nizwarf_req *req, uint8_t *room,
-				    size_t space, nizwarf_answer *answer)
-{
-	const nizwarf_call *c = req->call;
-	const nizwarf_file_info fi = nizwarf_file_of(c);
-	nizwarf_lock lock = nizwarf_lock_asked(c);
-	struct timespec timeout = { 0, 0 };
-	nizwarf_ioctl out = { 0, 0, 0, 0 };
-	nizwarf_statx statx;
-	size_t len = 0, size;
-	int error;
-
-	memset(&statx, 0, sizeof(statx));
-	answer->text = room;
-	switch (c->call) {
-	case NIZWARF_GETLK:
-		if (space < sizeof(lock))
-			return EIO;
-		answer->text_len = sizeof(lock);
-		error = NIZWARF_DO(getlk, c->node, &fi, &lock);
-		if (!error)
-			memcpy(room, &lock, sizeof(lock));
-		return error;
-	case NIZWARF_STATX:
-		if (space < sizeof(statx))
-			return EIO;
-		answer->text_len = sizeof(statx);
-		error = NIZWARF_DO(statx, c->node, c->flags, nizwarf_statx_mask(c),
-				   c->has & NIZWARF_HAS_HANDLE ? &fi : NULL, &statx, &timeout);
-		statx.attr_seconds = nizwarf_seconds_of(timeout);
-		statx.attr_nanoseconds = nizwarf_nanoseconds_of(timeout);
-		if (!error)
-			memcpy(room, &statx, sizeof(statx));
-		return error;
-	case NIZWARF_IOCTL:
-		if (space < sizeof(out))
-			return EIO;
-		size = c->size < space - sizeof(out) ? c->size : space - sizeof(out);
-		error = NIZWARF_DO(ioctl, c->node, nizwarf_ioctl_command(c), nizwarf_ioctl_argument(c), &fi,
-				   c->flags, req->request + c->data.at, (size_t)c->data.len, &out,
-				   room + sizeof(out), size, &len);
-		if (!error)
-			memcpy(room, &out, sizeof(out));
-		answer->text_len = sizeof(out) + (len < size ? len : size);
-		return !error && len > size ? EIO : error;
-	default:
-		return ENOSYS;
-	}
-}
-
-/* READDIR, with or without PLUS: as many items as there is room for, by what was asked for and by what
- * there is. One that doesn't fit ends the reading, and is asked for again. With an error the items that
- * were added are given back. */
-static inline int nizwarf_do_directory(const nizwarf_ops *ops, const nizwarf_req *req, nizwarf_dir *dir,
-				       nizwarf_answer *answer)
-{
-	const nizwarf_call *c = req->call;
-	const nizwarf_file_info fi = nizwarf_file_of(c);
-	int error;
-
-	dir->left = c->size < dir->left ? c->size : dir->left;
-	if (!dir->most)
-		error = EIO;
-	else if (c->has & NIZWARF_PLUS)
-		error = NIZWARF_DO(readdirplus, c->node, c->offset, &fi, dir);
-	else
-		error = NIZWARF_DO(readdir, c->node, c->offset, &fi, dir);
-	answer->items = dir->items;
-	answer->items_len = dir->len;
-	return error;
-}
-
-/* WRITE and both copies, which answer how many bytes, and POLL, which answers events. More bytes than were
- * asked for are EIO: the kernel would believe that they went. */
-static inline int nizwarf_do_written(const nizwarf_ops *ops, const nizwarf_req *req, nizwarf_answer *answer)
-{
-	const nizwarf_call *c = req->call;
-	const nizwarf_file_info fi = nizwarf_file_of(c);
-	nizwarf_file_info out = fi;
-	uint64_t size = c->size < c->data.len ? c->size : c->data.len;
-	uint32_t revents = 0;
-	size_t len = 0;
-	int error = ENOSYS;
-
-	out.fh = c->other_handle;
-	if (c->call == NIZWARF_POLL) {
-		error = NIZWARF_DO(poll, c->node, &fi, nizwarf_poll_events(c), nizwarf_poll_number(c),
-				   (int)(c->flags & 1), &revents);
-		answer->count = revents;
-		return error;
-	}
-	if (c->call == NIZWARF_COPY || c->call == NIZWARF_COPY_64)
-		size = c->length;
-	/* (the reply to opcode 47 has 32 bits for the count, that to 53 has 64) */
-	if (c->call == NIZWARF_COPY && size > NIZWARF_MOST_COPIED)
-		size = NIZWARF_MOST_COPIED;
-	if (c->call == NIZWARF_WRITE)
-		error = NIZWARF_DO(write, c->node, req->request + c->data.at, (size_t)size, c->offset, &fi,
-				   &len);
-	else if (c->call == NIZWARF_COPY || c->call == NIZWARF_COPY_64)
-		error = NIZWARF_DO(copy_file_range, c->node, c->offset, &fi, c->other_node, c->other_offset,
-				   &out, size, nizwarf_copy_flags(c), &len);
-	answer->count = len;
-	return !error && len > size ? EIO : error;
-}
-
-/* INIT, which is answered by what is to be agreed on, and with `conn` by what is to be agreed on besides. */
-static inline int nizwarf_do_init(const nizwarf_ops *ops, const nizwarf_req *req, uint8_t *room, size_t space,
-				  nizwarf_answer *answer)
-{
-	const uint64_t capable = nizwarf_init_offered(req->call), further = nizwarf_init_further(req->call);
-	const uint64_t high = UINT64_C(0xffffffff) << 32;
-	uint64_t want = capable & nizwarf_served(ops, NIZWARF_WANT_USUAL | NIZWARF_WANT_READDIRPLUS);
-	nizwarf_conn_info conn;
-	nizwarf_init_more more;
-	int error = 0;
-
-	if (ops->conn) {
-		memset(&conn, 0, sizeof(conn));
-		memset(&more, 0, sizeof(more));
-		conn.capable = capable | further;
-		conn.want = want;
-		error = ops->conn(req, &conn);
-		want = conn.want;
-		more.want = conn.want & further;
-		more.max_readahead = conn.max_readahead;
-		more.max_write = conn.max_write;
-		more.time_gran = conn.time_gran;
-		more.max_stack_depth = conn.max_stack_depth;
-		more.request_timeout = conn.request_timeout;
-		more.max_background = conn.max_background;
-		more.congestion_threshold = conn.congestion_threshold;
-		if (space >= sizeof(more)) {
-			memcpy(room, &more, sizeof(more));
-			answer->text = room;
-			answer->text_len = sizeof(more);
-		}
-	} else if (ops->init) {
-		error = ops->init(req, capable, &want);
-	}
-	want = capable & nizwarf_served(ops, want);
-	/* (INIT_EXT says that there are others than the first 32) */
-	nizwarf_answer_options(answer, want & high || further ? want | (capable & 1 << 30) : want);
-	return error;
-}
-
-/* What is left: a copy that answers 64 bits, BMAP and LSEEK, which answer a place, and STATFS. Without a
- * function STATFS tells of names of 255 bytes, in blocks of 512. */
-static inline int nizwarf_do_others(const nizwarf_ops *ops, const nizwarf_req *req, nizwarf_answer *answer)
-{
-	const nizwarf_call *c = req->call;
-	const nizwarf_file_info fi = nizwarf_file_of(c);
-	uint64_t found = 0;
-	int error;
-
-	switch (c->call) {
-	case NIZWARF_COPY_64:
-		return nizwarf_do_written(ops, req, answer);
-	case NIZWARF_BMAP:
-		error = NIZWARF_DO(bmap, c->node, c->size, c->offset, &found);
-		nizwarf_answer_offset(answer, found);
-		return error;
-	case NIZWARF_STATFS:
-		answer->statfs.namemax = 255;
-		answer->statfs.bsize = answer->statfs.frsize = 512;
-		return ops->statfs ? ops->statfs(req, c->node, &answer->statfs) : 0;
-	case NIZWARF_LSEEK:
-		error = NIZWARF_DO(lseek, c->node, c->offset, nizwarf_lseek_whence(c), &fi, &found);
-		nizwarf_answer_offset(answer, found);
-		return error;
-	default:
-		return ENOSYS;
-	}
-}
-
-#undef NIZWARF_DO
-#undef NIZWARF_NAME
-
-/* Makes the call, by the kind of its answer. `dir` has the room after the first 16 bytes, in which any text
- * is put. 0, an error, or NIZWARF_LATER. */
-static inline int nizwarf_make_call(const nizwarf_ops *ops, const nizwarf_req *req, nizwarf_dir *dir,
-				    nizwarf_answer *answer)
-{
-	switch (req->call->answer) {
-	case NIZWARF_QUIET:
-		return nizwarf_do_quiet(ops, req);
-	case NIZWARF_DONE:
-		return nizwarf_do_done(ops, req);
-	case NIZWARF_ENTRY:
-		return nizwarf_do_entry(ops, req, answer);
-	case NIZWARF_ATTR:
-		return nizwarf_do_attr(ops, req, answer);
-	case NIZWARF_OPENED:
-	case NIZWARF_CREATED:
-		return nizwarf_do_open(ops, req, answer);
-	case NIZWARF_WANT:
-		return nizwarf_do_init(ops, req, dir->names, dir->left, answer);
-	case NIZWARF_DATA:
-	case NIZWARF_TEXT:
-	case NIZWARF_TEXT_OR_COUNT:
-		if (nizwarf_is_record(req->call))
-			return nizwarf_do_record(ops, req, dir->names, dir->left, answer);
-		return nizwarf_do_data(ops, req, dir->names, dir->left, answer);
-	case NIZWARF_DIRECTORY:
-		return nizwarf_do_directory(ops, req, dir, answer);
-	case NIZWARF_WRITTEN:
-		return nizwarf_do_written(ops, req, answer);
-	default:
-		return nizwarf_do_others(ops, req, answer);
-	}
-}
-
-/* Releases what was opened, where the client does not get its handle: by `release` or `releasedir`,
- * with the flags that it was opened with. */
-static inline void nizwarf_do_release(const nizwarf_ops *ops, const nizwarf_req *req,
-				      const nizwarf_answer *answer)
-{
-	const nizwarf_call *c = req->call;
-	nizwarf_file_info fi = nizwarf_file_of(c);
-
-	if (answer->error || !answer->has_handle)
-		return;
-	fi.fh = answer->handle;
-	if (c->call == NIZWARF_OPENDIR && ops->releasedir)
-		ops->releasedir(req, c->node, &fi);
-	else if (c->call != NIZWARF_OPENDIR && ops->release)
-		ops->release(req, c->answer == NIZWARF_CREATED ? answer->entry.node : c->node, &fi);
-}
-
-/* A session as it is now. Another thread may serve an INIT meanwhile. */
-static inline nizwarf_session nizwarf_session_now(const nizwarf_session *session)
-{
-	nizwarf_session now;
-
-	now.options = __atomic_load_n(&session->options, __ATOMIC_ACQUIRE);
-	now.page_size = session->page_size;
-	now.max_buffer = session->max_buffer;
-	return now;
-}
-
-/* Whether two pieces of memory have a byte in common. (Pointers to different memory are compared as
- * numbers.) */
-static inline int nizwarf_overlap(const void *one, size_t one_len, const void *other, size_t other_len)
-{
-	const uintptr_t a = (uintptr_t)one, b = (uintptr_t)other;
-
-	return one_len && other_len && (a < b ? b - a < one_len : a - b < other_len);
-}
-
-/* Answers a call that was made, and gives back what the client does not get: what was opened is released
- * before the lookup of its node is given back, since a release may need the node. */
-static inline int32_t nizwarf_reply_ops(const nizwarf_ops *ops, const nizwarf_req *req, nizwarf_slot *slot,
-					const nizwarf_session *now, const nizwarf_answer *answer,
-					const nizwarf_room *whole, nizwarf_told *told)
-{
-	int32_t code;
-
-	if ((answer->error < 0 || answer->error > NIZWARF_LAST_ERROR) && ops->bad_error)
-		ops->bad_error(req->user, req->call, answer->error);
-	code = nizwarf_reply(slot, now, req->call, answer, whole, 1, told);
-	if (code != NIZWARF_OK)
-		nizwarf_do_release(ops, req, answer);
-	if (told->give_back && ops->forget)
-		ops->forget(req, told->give_back, 1);
-	return code;
-}
-
-/* Whether a call of this kind of answer may be answered later. (The items of a directory are lent for a call.) */
-static inline int nizwarf_may_wait(uint32_t kind)
-{
-	return kind != NIZWARF_QUIET && kind != NIZWARF_WANT && kind != NIZWARF_DIRECTORY;
-}
-
-/* Makes the call that a request asked for, and answers it. */
-static inline int32_t nizwarf_answer_ops(const nizwarf_ops *ops, const nizwarf_req *req, nizwarf_slot *slot,
-					 nizwarf_session *session, nizwarf_call *call, nizwarf_dir *dir,
-					 const nizwarf_room *whole, size_t *reply_len)
-{
-	const nizwarf_session now = nizwarf_session_now(session);
-	nizwarf_answer answer = NIZWARF_NO_ANSWER;
-	nizwarf_told told;
-	int32_t code;
-	size_t i;
-
-	answer.error = nizwarf_make_call(ops, req, dir, &answer);
-	/* (nothing of the call is touched from here on: who answers it may be done with it) */
-	if (answer.error == NIZWARF_LATER && nizwarf_may_wait(call->answer))
-		return NIZWARF_ASKED;
-	/* (what isn't offered isn't agreed on, whether or not the library serves it by itself) */
-	if (call->call == NIZWARF_INIT)
-		nizwarf_init_keep(call, answer.count);
-	code = nizwarf_reply_ops(ops, req, slot, &now, &answer, whole, &told);
-	*reply_len = (size_t)told.len;
-	if (call->call == NIZWARF_INIT || call->call == NIZWARF_DESTROY)
-		__atomic_store_n(&session->options, call->call == NIZWARF_DESTROY ? 0 : told.options,
-				 __ATOMIC_RELEASE);
-	/* (items that are not in the reply: of those of readdir the node is 0) */
-	for (i = (size_t)told.taken; i < dir->len; i++)
-		nizwarf_give_back(dir, dir->items[i].entry.node);
-	return code;
-}
-
-/* Answers a call that is answered later, of which `call` is a copy: `answer` as nizwarf_reply takes it, with
- * `error` as a function of the table would have answered. The room is memory of as many bytes as
- * `call->room`. What the client does not get is given back and released. The slot is lent to nobody
- * else meanwhile. As nizwarf_serve_ops, it tells a code and how long the reply is; NIZWARF_OUT_OF_MEMORY comes by
- * another slot than served the request. */
-static inline int32_t nizwarf_finish_ops(const nizwarf_ops *ops, void *user, nizwarf_slot *slot,
-					 const nizwarf_session *session, const nizwarf_call *call,
-					 const nizwarf_answer *answer, void *room, size_t *reply_len)
-{
-	const nizwarf_room whole = { room, (size_t)call->room };
-	const nizwarf_session now = nizwarf_session_now(session);
-	const nizwarf_req req = { user, call, (const uint8_t *)"" };
-	nizwarf_told told;
-	int32_t code;
-
-	code = nizwarf_reply_ops(ops, &req, slot, &now, answer, &whole, &told);
-	*reply_len = (size_t)told.len;
-	return code;
-}
-
-/* Serves one request, of `len` bytes in one piece, with one room. The answer is as that of
- * nizwarf_message: NIZWARF_OK, and the first `*reply_len` bytes of the room are the reply; any
- * other code, and there is none, though the kernel behind /dev/fuse waits for one: write it EIO, as
- * fuse_device.c does; but NIZWARF_ASKED, which says that the call is answered later.
- * After NIZWARF_OUT_OF_MEMORY no call was made.
- * `session->options` change with INIT and DESTROY. What the client does not get is given back by
- * `forget`, and what was opened for it is released first. `items` are room for the items of a
- * directory: of those that don't fit there the client asks again, and where `most` is 0 it gets EIO.
+/* The options that a table negotiates by default, where the client supports them: FUSE_ASYNC_READ,
+ * ATOMIC_O_TRUNC, BIG_WRITES, AUTO_INVAL_DATA, ASYNC_DIO, PARALLEL_DIROPS, MAX_PAGES, SUBMOUNTS, INIT_EXT and
+ * CREATE_SUPP_GROUP. */
+#define NIZWARF_WANT_DEFAULT UINT64_C(0x448449029)
+
+/* The length of the longest link target that Linux accepts, in bytes, without a NUL. */
+enum { NIZWARF_MAX_LINK = 4095 };
+
+/* The most bytes that one COPY_FILE_RANGE of opcode 47 copies: the largest number of whole pages that the 32
+ * bits of its reply can hold. copy_file_range(2) returns this number, and its caller continues with the
+ * remainder. */
+#define NIZWARF_MAX_COPY UINT32_C(0xfffff000)
+
+/* Returns those of `options` that a table can serve. HAS_INODE_DAX is never among them. POSIX_LOCKS requires
+ * getlk and setlk, FLOCK_LOCKS flock, HAS_IOCTL_DIR ioctl, ATOMIC_O_TRUNC open, DO_READDIRPLUS and
+ * READDIRPLUS_AUTO readdirplus, WRITEBACK_CACHE write, and SETXATTR_EXT setxattr; all others are kept. */
+uint64_t nizwarf_served(const nizwarf_ops *ops, uint64_t options);
+
+/* Returns the features (NIZWARF_FEATURE_LOCKS and others) whose functions a table has. nizwarf_serve_ops
+ * decodes each request with these. */
+uint32_t nizwarf_features_of(const nizwarf_ops *ops);
+
+/* Converts a number of seconds to a timeout. A negative number and a NaN become 0. */
+struct timespec nizwarf_timeout(double seconds);
+
+/* Converts the result of stat(2) to attributes. A number that the protocol has 32 bits for is truncated to
+ * these. */
+nizwarf_attr nizwarf_attr_of(const struct stat *st);
+
+/* Converts the result of statvfs(3). */
+nizwarf_statfs nizwarf_statfs_of(const struct statvfs *st);
+
+/* An entry as the codec takes it. */
+nizwarf_entry nizwarf_entry_of(const nizwarf_entry_param *e);
+
+/* Adds an entry, for readdir. `name` is copied. `ino` is the inode number that readdir(3) shows; `type` is
+ * DT_REG or another constant of dirent.h, or 0 if it is unknown. `off` is the position after the entry, from
+ * which the client continues; it must not be 0, which is the beginning. Returns 1, or 0 if the entry was not
+ * added, because the reply is full: readdir must then return without adding another one. */
+int nizwarf_add_direntry(nizwarf_dir *dir, const char *name, uint64_t ino, uint32_t type, uint64_t off);
+
+/* Adds an entry with attributes, for readdirplus. `*e` is as lookup would return it, and counts one lookup of
+ * `e->ino`, which the caller must have counted already. For `.` and `..` no lookup counts, and only the
+ * attributes are used. `name`, `off` and the result are as in nizwarf_add_direntry. If the entry is not
+ * added, the library drops its lookup by calling forget before it returns; so it does for each entry if it is
+ * called by readdir. */
+int nizwarf_add_direntry_plus(nizwarf_dir *dir, const char *name, const nizwarf_entry_param *e, uint64_t off);
+
+/* Encodes the deferred reply to a call whose function returned NIZWARF_LATER. It must be called once for each
+ * such call, on any thread. `call` is the copy that the function made. `answer` is filled in as for
+ * nizwarf_encode, with `error` 0 or the error that the function would have returned. The reply buffer must
+ * have as many bytes as the one that the request was served with; for a READ the program must store the data
+ * after its first 16 bytes. The scratch memory must not be in use by another call.
  *
- * The room is yours alone, and what is put there is read again: of a guest's take none, but memory
- * of yours with as many bytes, and copy the reply. It does not overlap the request:
- * NIZWARF_NOT_ASKED, and nothing was done. */
-static inline int32_t nizwarf_serve_ops(const nizwarf_ops *ops, void *user, nizwarf_slot *slot,
-					nizwarf_session *session, const void *request, size_t len, void *room,
-					size_t room_len, nizwarf_item *items, size_t most, size_t *reply_len)
-{
-	const nizwarf_segment piece = { request, len };
-	const nizwarf_room whole = { room, room_len };
-	nizwarf_session now;
-	nizwarf_call call;
-	nizwarf_told told;
-	nizwarf_dir dir;
-	nizwarf_req req;
-	int32_t code;
+ * Returns a code as nizwarf_serve_ops does, and the length of the reply in `*reply_len`.
+ * NIZWARF_OUT_OF_MEMORY is returned only if the scratch memory is not the one that the request was served
+ * with. If the entry or the handle did not reach the client, release and forget are called before this
+ * function returns; so the program must not hold a lock that these take. */
+int32_t nizwarf_finish_ops(const nizwarf_ops *ops, void *user, nizwarf_scratch *scratch,
+			   const nizwarf_session *session, const nizwarf_call *call,
+			   const nizwarf_answer *answer, void *reply, size_t *reply_len);
 
-	*reply_len = 0;
-	if (!session)
-		return NIZWARF_NULL;
-	if (nizwarf_overlap(request, len, room, room_len))
-		return NIZWARF_NOT_ASKED;
-	now = nizwarf_session_now(session);
-	code = nizwarf_ask_offered(slot, &now, nizwarf_offers_of(ops), &piece, 1, &whole, 1, &call, &told);
-	*reply_len = (size_t)told.len;
-	if (told.interrupts && ops->interrupt)
-		ops->interrupt(user, told.interrupts);
-	if (code != NIZWARF_ASKED)
-		return code;
-	req.user = user;
-	req.call = &call;
-	req.request = (const uint8_t *)request;
-	dir.ops = ops;
-	dir.req = &req;
-	dir.items = items;
-	dir.len = 0;
-	dir.most = most;
-	/* (the reply begins with a fuse_out_header of 16 bytes) */
-	dir.names = (uint8_t *)room + (room_len < 16 ? room_len : 16);
-	dir.left = room_len < 16 ? 0 : room_len - 16;
-	return nizwarf_answer_ops(ops, &req, slot, session, &call, &dir, &whole, reply_len);
-}
+/* Serves one request: decodes it, calls the function of the table, and encodes the reply into a buffer of
+ * `reply_size` bytes. `request` has `len` bytes and must not change during the call. `user` is passed to the
+ * functions. `items` is an array of `most` directory entries for listings, with any contents: the client
+ * reads again for entries that do not fit, but `most` 0 lets each listing fail with EIO.
+ *
+ * The reply buffer should have the largest size of a reply, max_buffer + 4096 bytes, because a READ gets no
+ * more data than it has space for. It must be memory that nobody else can write to, because the library reads
+ * back data that it has stored there; so the buffers of a guest must not be passed, and the reply must be
+ * copied to them. It must not overlap the request: NIZWARF_BAD_CALL is returned then, and nothing is done.
+ *
+ * Returns NIZWARF_OK if the first `*reply_len` bytes of the buffer are the reply, or if no reply is due
+ * (`*reply_len` is 0). Returns NIZWARF_CALL if the function deferred its reply. Any other code means that
+ * there is no reply, because the request was rejected or its reply does not fit: a virtio request must be
+ * completed with length 0, but /dev/fuse needs a reply nevertheless, so write a header with EIO, or with
+ * ENOMEM after NIZWARF_OUT_OF_MEMORY, as fuse_device.c does. After NIZWARF_OUT_OF_MEMORY no function was
+ * called.
+ *
+ * INIT and DESTROY change `session->options`. If an entry or a handle did not reach the client, release or
+ * releasedir is called first, because it may need the node, and then forget. */
+int32_t nizwarf_serve_ops(const nizwarf_ops *ops, void *user, nizwarf_scratch *scratch,
+			  nizwarf_session *session, const void *request, size_t len, void *reply,
+			  size_t reply_size, nizwarf_dirent *items, size_t most, size_t *reply_len);
 
-/* Calls `destroy` at the end, where no DESTROY came: Linux sends none as /dev/fuse is unmounted. So it
- * does nothing before an INIT that agreed on options, after a DESTROY, or a second time. No request is
- * served meanwhile. */
-static inline void nizwarf_end_ops(const nizwarf_ops *ops, void *user, nizwarf_session *session)
-{
-	nizwarf_call call;
-	nizwarf_req req;
-
-	memset(&call, 0, sizeof(call));
-	call.call = NIZWARF_DESTROY;
-	call.options = __atomic_exchange_n(&session->options, 0, __ATOMIC_ACQ_REL);
-	req.user = user;
-	req.call = &call;
-	req.request = (const uint8_t *)"";
-	if (call.options && ops->destroy)
-		ops->destroy(&req);
-}
+/* Ends the session by calling destroy, for clients that send no DESTROY, such as Linux when /dev/fuse is
+ * unmounted. It does nothing if no INIT has negotiated options, after a DESTROY, or when it is called again.
+ * No request must be served at the same time. */
+void nizwarf_end_ops(const nizwarf_ops *ops, void *user, nizwarf_session *session);
 
 #ifdef __cplusplus
 }

@@ -1,44 +1,47 @@
-/* A server of FUSE requests over a file system in memory, a tree of directories, files and links, for a
- * transport. nizwarf.h includes this file; for a file system of your own it has the door.
+/* nizwarf_tree.h - a FUSE server over a file system in memory.
  *
- * A transport takes a request from its queue, calls nizwarf_message with the segments of the request
- * and of the room for its reply, and completes the request with the length that it is told. Of the
- * library's own functions, whose names end in `_at`, each promise is proved (crates/nizwarf_tree); those for a
- * transport look at pointers first, and copy replies into the room by calls of nizwarf_copy_at. Or it calls
- * nizwarf_message_take, by which no reply is copied.
+ * The file system is a tree of directories, files and links. A transport takes a request from its queue,
+ * passes it to nizwarf_server_handle() with a reply buffer, and completes the request with the length that
+ * this returns. For example:
  *
- *	nizwarf_server server = NIZWARF_NONE;
+ *	nizwarf_server server = NIZWARF_SERVER_INIT;
  *
- *	nizwarf_new(&server, 4096, 1 << 20, NULL);
+ *	nizwarf_server_new(&server, 4096, 1 << 20, NULL);
  *	..
- *	nizwarf_message(&server, request, segments, room, rooms, &len);
+ *	nizwarf_server_handle(&server, request, request_count, reply, reply_count, &len);
  *	complete(len);
  *	..
- *	nizwarf_end(&server);
+ *	nizwarf_server_free(&server);
  *
- * What holds from nizwarf_new on, whatever requests come, in whatever calls, and whenever the time is told.
- * Each request that nizwarf_message hands to the server is answered as the next one of one session. Over
- * all of them, for each node but 0, entries that the file system answered and forgets that were accepted
- * are entries delivered and forgets sent to it. The files stay a tree within its limits. Of a client that
- * never gave back more lookups than it had, just those are held that it had since its last INIT and did not
- * give back; so once it gave back all, or sent DESTROY, no node is left but those that have a name. The
- * last two are of the tree: a library over another file system has promises of its own. Of what the tree
- * offers, a TMPFILE is handed to the server as the CREATE of the same bytes; a STATX or an IOCTL, which changes
- * nothing, is none of these requests.
+ * nizwarf_server_handle_take() does the same without copying the reply. nizwarf.h includes this file; for a
+ * file system of your own see there.
  *
- * Who owns what. A nizwarf_server is a variable of yours that begins as NIZWARF_NONE. From then on only
- * the functions here read or write it, and it is not copied: what it points to is the library's, from
- * nizwarf_new up to nizwarf_end. So is a nizwarf_taken, from the first call that it is lent to up to
- * nizwarf_end_taken; it belongs to no server, and what was taken stays after the server's end. Segments and
- * rooms, of which nizwarf.h says more, are yours, and lent for the length of a call; no pointer to them is
- * kept. A room may overlap the request, since it is written once the request was read; it overlaps no server
- * and no `*len`. A server keeps memory as long as the longest room that it was given, and a nizwarf_taken
- * memory that a server kept.
+ * Guarantees. These hold from nizwarf_server_new on, for any requests and any calls in any order:
  *
- * Threads. One call at a time for each server, on any thread; where that is another than the last call's, a
- * lock, a thread's start or join, or a sequentially consistent atomic orders the two. So it is with a
- * nizwarf_taken, and its reply is read while no call has it. Two servers, or two nizwarf_takens, have nothing
- * in common.
+ *   - Each request that nizwarf_server_handle passes to the server is answered as the next one of one session.
+ *   - For each node but 0, the lookups that the file system has counted, less those that accepted requests
+ *     have forgotten, are the lookups that the client has received, less those that it has forgotten.
+ *   - The files form a tree, within the limits of the settings.
+ *   - If the client never forgets more lookups than it has, only nodes with a name or with a lookup since the
+ *     last INIT are kept; so after it has forgotten all, or sent DESTROY, only nodes with a name remain.
+ *
+ * The last two are properties of this tree; a library over another file system has its own. A TMPFILE is
+ * passed to the server as the CREATE of the same bytes. STATX and IOCTL, which change nothing, are not passed
+ * to it. The functions of the library, whose names end in `_at`, are proved to keep these promises
+ * (crates/nizwarf_tree); the others check pointers and copy replies.
+ *
+ * Ownership. A nizwarf_server must be initialised with NIZWARF_SERVER_INIT, and must not be copied; only the
+ * functions of this file may read or write it. Its memory belongs to the library from nizwarf_server_new
+ * until nizwarf_server_free. The same is true of a nizwarf_reply_buf, from the first call that uses it until
+ * nizwarf_reply_buf_free; it belongs to no server, so the reply in it stays valid after the server is freed.
+ * Requests and reply buffers, whose rules are those of nizwarf.h, are used during a call only. A reply buffer
+ * may overlap the request, because it is written after the request was read, but must not overlap the server
+ * or `*len`. A server keeps memory of the size of the largest reply buffer that was passed to it.
+ *
+ * Threads. A server, and a nizwarf_reply_buf, must be used by one call at a time, on any thread. If two calls
+ * are on different threads, a lock, the start or join of a thread, or a sequentially consistent atomic must
+ * order them. A taken reply must not be read during a call with its nizwarf_reply_buf. Two servers are
+ * independent.
  */
 #ifndef NIZWARF_TREE_H
 #define NIZWARF_TREE_H
@@ -49,175 +52,124 @@
 extern "C" {
 #endif
 
-/* A server, or none. It begins as NIZWARF_NONE. */
+/* A server. It must be initialised with NIZWARF_SERVER_INIT, which is no server. */
 typedef struct {
 	void *at;
 } nizwarf_server;
 
-/* The memory of a reply that was taken out of a server, or none. It begins as NIZWARF_NONE. */
+/* The initial value of a nizwarf_server. */
+#define NIZWARF_SERVER_INIT \
+	{                   \
+		0           \
+	}
+
+/* Memory of a reply, for nizwarf_server_handle_take. It must be initialised with NIZWARF_REPLY_BUF_INIT, and
+ * freed by nizwarf_reply_buf_free. */
 typedef struct {
 	void *at;
-} nizwarf_taken;
+} nizwarf_reply_buf;
 
-/* Where a reply lies that was taken: `len` bytes, from `start` past `at` on. Where `len` is 0, `at` may point
- * anywhere. */
+/* The initial value of a nizwarf_reply_buf. */
+#define NIZWARF_REPLY_BUF_INIT \
+	{                      \
+		0              \
+	}
+
+/* The position of a taken reply: `len` bytes, which begin `start` bytes after `at`. `at` may point anywhere
+ * if `len` is 0. */
 typedef struct {
 	const uint8_t *at;
 	size_t start, len;
-} nizwarf_place;
+} nizwarf_reply_range;
 
-/* What a new file system is, without padding. One over something else than a tree in memory takes of it
- * what it wants. */
+/* Settings of a new file system. The struct has no padding. All fields must be set, for which
+ * NIZWARF_SERVER_CONFIG may be used. A library over another file system may ignore fields. */
 typedef struct {
-	/* When it is made, since 1970: the root bears it. */
+	/* The time of creation in seconds since 1970, which is the time of the root. */
 	uint64_t seconds;
-	/* How many nodes it holds at most, the root among them; how many bytes; how many bytes of a file. */
+	/* Limits: the number of nodes, the root included; the number of bytes of all files, links and
+	 * attributes; and the size of one file in bytes. */
 	uint64_t nodes, bytes, file;
-	/* The nanoseconds past `seconds`. */
+	/* The nanoseconds of the time of creation. */
 	uint32_t nanoseconds;
-	/* Who the root belongs to, and its permission bits. */
+	/* Owner, group and permissions of the root. */
 	uint32_t uid, gid, mode;
 	/* NIZWARF_WRITEBACK, or 0. */
 	uint64_t flags;
-} nizwarf_settings;
+} nizwarf_server_config;
 
-/* The kernel is asked to keep what is written and to write it later (FUSE_WRITEBACK_CACHE). What there is
- * no space for is told by fsync or close then, not by write. */
+/* A flag of the settings: negotiate FUSE_WRITEBACK_CACHE, so that the kernel caches writes and sends them
+ * later. Because of that, lack of space is reported by fsync(2) or close(2), and not by write(2). */
 #define NIZWARF_WRITEBACK 1
 
-/* A million nodes and 4 GiB of data, links and attributes, and files as long as Linux allows; a root of user
- * and group 0, which they alone may write; no time yet; no flags. Nodes and their names come on top of the
- * 4 GiB. */
-#define NIZWARF_SETTINGS                                                             \
+/* The default settings: 2^20 nodes, 4 GiB of data, links and attributes, and files as large as Linux allows;
+ * a root with owner and group 0, which only the owner may write; time 0; no flags. Nodes and their names take
+ * memory besides the 4 GiB. */
+#define NIZWARF_SERVER_CONFIG                                                        \
 	{                                                                            \
 		0, UINT64_C(1) << 20, UINT64_C(1) << 32, INT64_MAX, 0, 0, 0, 0755, 0 \
 	}
 
-/* The functions of the library. No pointer is NULL here, and that to a list without pieces may point
- * anywhere. A program that isn't in C links these. Their contracts: crates/nizwarf_tree/src/lib.rt. */
-int32_t nizwarf_new_at(nizwarf_server *server, uint32_t page_size, uint32_t max_buffer,
-		       const nizwarf_settings *settings);
-int32_t nizwarf_tell_time_at(nizwarf_server *server, uint64_t seconds, uint32_t nanoseconds);
-int32_t nizwarf_message_at(nizwarf_server *server, const nizwarf_segment *request, size_t segments,
-			   size_t room, size_t *len);
-size_t nizwarf_copy_at(nizwarf_server *server, size_t at, uint8_t *piece, size_t piece_len);
-int32_t nizwarf_take_at(nizwarf_server *server, nizwarf_taken *taken, nizwarf_place *place);
-int32_t nizwarf_end_taken_at(nizwarf_taken *taken);
-uint64_t nizwarf_options_at(nizwarf_server *server);
-uint32_t nizwarf_max_buffer_at(nizwarf_server *server);
-int32_t nizwarf_end_at(nizwarf_server *server);
+/* For programs in other languages, which link these functions; those below call them. No pointer may be NULL
+ * here; one to an empty list may point anywhere. Their contracts are in crates/nizwarf_tree/src/lib.rt.
+ * nizwarf_server_copy_at copies the bytes of the last reply from position `at` on, as many as there are and
+ * `piece` can hold, and returns how many. nizwarf_server_take_at moves the last reply out of the server,
+ * together with its memory, and stores its position; the server gets the memory that `taken` had. */
+int32_t nizwarf_server_new_at(nizwarf_server *server, uint32_t page_size, uint32_t max_buffer,
+			      const nizwarf_server_config *settings);
+int32_t nizwarf_server_set_time_at(nizwarf_server *server, uint64_t seconds, uint32_t nanoseconds);
+int32_t nizwarf_server_handle_at(nizwarf_server *server, const struct iovec *request, size_t request_count,
+				 size_t reply_size, size_t *len);
+size_t nizwarf_server_copy_at(nizwarf_server *server, size_t at, uint8_t *piece, size_t piece_len);
+int32_t nizwarf_server_take_at(nizwarf_server *server, nizwarf_reply_buf *taken, nizwarf_reply_range *place);
+int32_t nizwarf_reply_buf_free_at(nizwarf_reply_buf *taken);
+uint64_t nizwarf_server_options_at(nizwarf_server *server);
+uint32_t nizwarf_server_max_buffer_at(nizwarf_server *server);
+int32_t nizwarf_server_free_at(nizwarf_server *server);
 
-/* Makes a server. `page_size` is that of the machine, at least 4096; `max_buffer` the largest payload of
- * a request or a reply, from 4096 to 134217728 bytes: 1048576 is virtiofsd's; `settings` what its file
- * system is, NIZWARF_SETTINGS if it is NULL. A server that was there is ended. NIZWARF_OUT_OF_MEMORY,
- * NIZWARF_WRONG_SIZE or NIZWARF_NULL: it is as it was. */
-static inline int32_t nizwarf_new(nizwarf_server *server, uint32_t page_size, uint32_t max_buffer,
-				  const nizwarf_settings *settings)
-{
-	const nizwarf_settings defaults = NIZWARF_SETTINGS;
+/* Creates a server. `page_size` is that of the machine, at least 4096. `max_buffer` is the largest payload of
+ * a request or a reply in bytes, from 4096 to 134217728; virtiofsd uses 1048576. `settings` may be NULL for
+ * NIZWARF_SERVER_CONFIG. A server that exists already is freed. Returns NIZWARF_OK; or NIZWARF_OUT_OF_MEMORY,
+ * NIZWARF_WRONG_SIZE or NIZWARF_NULL, and then changes nothing. */
+int32_t nizwarf_server_new(nizwarf_server *server, uint32_t page_size, uint32_t max_buffer,
+			   const nizwarf_server_config *settings);
 
-	if (!server)
-		return NIZWARF_NULL;
-	return nizwarf_new_at(server, page_size, max_buffer, settings ? settings : &defaults);
-}
+/* Sets the time of the file system, since 1970, which is used for everything that is created, changed or read
+ * from now on. Until the first call it is the time of the settings, so a transport should call this before
+ * each request, or regularly. Returns NIZWARF_OK, or NIZWARF_NO_SERVER. */
+int32_t nizwarf_server_set_time(nizwarf_server *server, uint64_t seconds, uint32_t nanoseconds);
 
-/* Tells the file system the time since 1970: what is made, changed or read from now on bears it. Until then it
- * is that of the settings. */
-static inline int32_t nizwarf_tell_time(nizwarf_server *server, uint64_t seconds, uint32_t nanoseconds)
-{
-	return server ? nizwarf_tell_time_at(server, seconds, nanoseconds) : NIZWARF_NULL;
-}
+/* Serves one request. The first `*len` bytes of the reply buffer are the reply, and its other bytes are
+ * unchanged. `*len` is 0 if there is no reply, as for FORGET, INTERRUPT and DESTROY.
+ *
+ * Returns a status code of nizwarf.h. After the codes 0 to 10 the request must be completed with `*len`, and
+ * the session goes on. After NIZWARF_ENCODE_MESSAGE the call may have been made, but `*len` is 0, and the
+ * reply buffer is filled with the beginning of the reply (unless it has less than 16 bytes), which must not
+ * be used. After any other error the reply buffer is unchanged. */
+int32_t nizwarf_server_handle(nizwarf_server *server, const struct iovec *request, size_t request_count,
+			      const struct iovec *reply, size_t reply_count, size_t *len);
 
-/* Answers one request. The first `*len` bytes of the rooms, in order, are the reply, and the others are
- * as they were. After NIZWARF_ENCODE_MESSAGE the rooms are full of the beginning of the reply, or as they
- * were if they have less than 16 bytes. After any other refusal they are as they were. */
-static inline int32_t nizwarf_message(nizwarf_server *server, const nizwarf_segment *request, size_t segments,
-				      const nizwarf_room *room, size_t rooms, size_t *len)
-{
-	const nizwarf_segment none = { "", 0 };
-	size_t total, at = 0, i;
-	int32_t code;
+/* Serves one request as nizwarf_server_handle does, but moves the reply out of the server instead of copying
+ * it. The reply is the `*len` bytes at `*reply`. They are valid until the next call with `taken`, even if the
+ * server is used or freed before. The size argument, in bytes, limits the reply as a reply buffer would. If
+ * there is no reply, and after each error, NIZWARF_ENCODE_MESSAGE too, `*reply` is NULL and `*len` is 0. */
+int32_t nizwarf_server_handle_take(nizwarf_server *server, const struct iovec *request, size_t request_count,
+				   size_t reply_size, nizwarf_reply_buf *taken, const void **reply,
+				   size_t *len);
 
-	if (!len)
-		return NIZWARF_NULL;
-	*len = 0;
-	if (!server)
-		return NIZWARF_NULL;
-	code = nizwarf_add_up(request, segments, room, rooms, &total);
-	if (code != NIZWARF_OK)
-		return code;
-	code = nizwarf_message_at(server, segments ? request : &none, segments, total, len);
-	if (code != NIZWARF_OK && code != NIZWARF_ENCODE_MESSAGE)
-		return code;
-	for (i = 0; i < rooms; i++) {
-		size_t copied = nizwarf_copy_at(server, at, (uint8_t *)room[i].at, room[i].len);
+/* Frees the memory of a taken reply, and so the reply. Returns NIZWARF_NO_SERVER if there was none. */
+int32_t nizwarf_reply_buf_free(nizwarf_reply_buf *taken);
 
-		if (copied < room[i].len)
-			break;
-		at += copied;
-	}
-	return code;
-}
+/* Returns the options that the last INIT has negotiated: `flags` are bits 0 to 31, `flags2` bits 32 to 63.
+ * Returns 0 if none are, or if there is no server. */
+uint64_t nizwarf_server_options(nizwarf_server *server);
 
-/* Answers one request as nizwarf_message does, and copies nothing: the reply is taken out of the server. It is
- * the `*len` bytes at `*reply`, up to the next call with `taken`, whatever becomes of the server meanwhile.
- * `room` is how many bytes it has at most. Where there is none, `*reply` is NULL and `*len` 0; so it is after
- * each refusal, also after NIZWARF_ENCODE_MESSAGE. */
-static inline int32_t nizwarf_message_take(nizwarf_server *server, const nizwarf_segment *request,
-					   size_t segments, size_t room, nizwarf_taken *taken,
-					   const void **reply, size_t *len)
-{
-	const nizwarf_segment none = { "", 0 };
-	nizwarf_place place = { NULL, 0, 0 };
-	size_t total;
-	int32_t code;
+/* Returns the largest payload in bytes, or 0 if there is no server. */
+uint32_t nizwarf_server_max_buffer(nizwarf_server *server);
 
-	if (reply)
-		*reply = NULL;
-	if (len)
-		*len = 0;
-	if (!server || !taken || !reply || !len)
-		return NIZWARF_NULL;
-	code = nizwarf_add_up(request, segments, NULL, 0, &total);
-	if (code != NIZWARF_OK)
-		return code;
-	/* (first without a reply: then `taken` has memory, and none is wanted for the reply that comes) */
-	code = nizwarf_take_at(server, taken, &place);
-	if (code == NIZWARF_OK)
-		code = nizwarf_message_at(server, segments ? request : &none, segments, room, len);
-	if (code != NIZWARF_OK || !*len)
-		return code;
-	code = nizwarf_take_at(server, taken, &place);
-	*len = place.len;
-	*reply = place.at + place.start;
-	return code;
-}
-
-/* Gives the memory back of a reply that was taken, and with it the reply. NIZWARF_NO_SERVER: there was none. */
-static inline int32_t nizwarf_end_taken(nizwarf_taken *taken)
-{
-	return taken ? nizwarf_end_taken_at(taken) : NIZWARF_NULL;
-}
-
-/* The options that the last INIT agreed on: its `flags` are bits 0 to 31, its `flags2` bits 32 to 63. 0
- * where none are agreed on, or there is no server. */
-static inline uint64_t nizwarf_options(nizwarf_server *server)
-{
-	return server ? nizwarf_options_at(server) : 0;
-}
-
-/* The largest payload, in bytes, and 0 where there is no server. */
-static inline uint32_t nizwarf_max_buffer(nizwarf_server *server)
-{
-	return server ? nizwarf_max_buffer_at(server) : 0;
-}
-
-/* Ends the server, as a DESTROY does, and gives its memory back. There is none from then on, and a
- * second call answers NIZWARF_NO_SERVER. */
-static inline int32_t nizwarf_end(nizwarf_server *server)
-{
-	return server ? nizwarf_end_at(server) : NIZWARF_NULL;
-}
+/* Ends the session as a DESTROY does, and frees the server and all files in it. Returns NIZWARF_NO_SERVER if
+ * the server was freed before. */
+int32_t nizwarf_server_free(nizwarf_server *server);
 
 #ifdef __cplusplus
 }

@@ -75,13 +75,13 @@ pack() {
 part "the daemon"
 proved=yes
 if [ -n "$unproved" ]; then
-    has_proof nizwarf_door || proved=
+    has_proof nizwarf_codec || proved=
 else
-    prove_crates nizwarf_door
+    prove_crates nizwarf_codec
 fi
 "$here/tools/virtiofsd.sh" "$folder" > /dev/null
 set_source "$name" "1.13.2+nizwarf$release"
-{ tell_build nizwarf_door && cargo --version && rustc --version; } > "$work/build-info"
+{ tell_build nizwarf_codec && cargo --version && rustc --version; } > "$work/build-info"
 part "the package"
 pack "$folder" "$work/out"
 if [ -n "$check" ]; then

@@ -1,6 +1,6 @@
 #!/usr/bin/env bash
-# Looks, in two minutes, without root and without a proof, whether what is here holds together; then it tells
-# which commands judge the rest of the files that were changed, and how long they take.
+# Looks, in two minutes, without root and without a proof, whether what is here holds together. CONTRIBUTING.md has the
+# commands that judge the rest of a change.
 #
 # Usage: tools/check.sh [--only PART]..
 #        tools/check.sh --missing
@@ -14,12 +14,11 @@
 #   python     Python's files, by pyflakes
 #   c          each file in C compiles with no warning, and the examples of manual pages
 #   format     the format of C's, by clang-format
-#   door       the libraries for C, built without a proof, and the tests in C over them
+#   codec       the libraries for C, built without a proof, and the tests in C over them
 #   crate      the tests of bindings/rust over that library
 #
 # A part that fails does not stop those after it. One whose programs are not installed is skipped, and which
-# packages have them is told: --missing prints these alone. Nothing is installed. What is changed is that since
-# the branch left origin/main, or main, and what is not committed. tools/dev/changes.txt has the commands.
+# packages have them is told: --missing prints these alone. Nothing is installed.
 # Status 0: all passed; 1: a part failed; 2: it could not start; 3: none failed, but one was skipped.
 set -euo pipefail
 . "$(dirname "$0")/lib/usage.sh"
@@ -27,12 +26,12 @@ set -euo pipefail
 . "$(dirname "$0")/lib/man.sh"
 cd "$here"
 
-parts=(documents edits numbers shell rattle rust python c format door crate)
+parts=(documents edits numbers shell rattle rust python c format codec crate)
 # What a part runs, by its package. The toolchain is none of Debian's.
 declare -A wanted=(
     [documents]="rt python3" [edits]="bash" [numbers]="python3 cc" [shell]="shellcheck" [rattle]="rt"
     [rust]="rustfmt" [python]="pyflakes3"
-    [c]="cc make python3" [format]="clang-format" [door]="rt cc pytest-3" [crate]="cargo rt cc"
+    [c]="cc make python3" [format]="clang-format" [codec]="rt cc pytest-3" [crate]="cargo rt cc"
 )
 # (a program that isn't here is in the package of its name)
 declare -A package=([cc]="gcc libc6-dev" [pytest-3]="python3-pytest" [rt]="")
@@ -104,7 +103,7 @@ check_shell() { scripts | each shellcheck; }
 # shellcheck disable=SC2016
 check_rust() { files '*.rs' | each -n 1 bash -c 'cd "${0%/*}" && rustfmt --check --color never < "${0##*/}" || { echo "$0" && exit 1; }'; }
 check_python() { files '*.py' | each pyflakes3; }
-check_door() { pytest-3 -q -m "not slow" tests/c; }
+check_codec() { pytest-3 -q -m "not slow" tests/c; }
 
 check_rattle() {
     mkdir "$folder/copy"
@@ -132,33 +131,16 @@ check_c() {
 
 check_crate() {
     export NIZWARF_LIB_DIR=$here/out/rust/lib
-    find_library nizwarf_door
+    find_library nizwarf_codec
     mkdir -p "$NIZWARF_LIB_DIR"
     # (without the library an older one would be tested, which is there)
-    cp -u "${library[@]}" "$NIZWARF_LIB_DIR" || return
+    cp -u "$archive" "$heap" "$NIZWARF_LIB_DIR" || return
     (cd bindings/rust && cargo test --quiet --offline)
 }
 
-# What a part looks at.
-count_of() {
-    case $1 in
-        documents) echo "$(files '*.md' | wc -l) pages" ;;
-        edits) echo "$(cat tests/edits/*.edits | grep -c '^== ') edits" ;;
-        numbers) tools/dev/numbers.py | sed 's/:.*//' ;;
-        shell) echo "$(scripts | wc -l) scripts" ;;
-        rattle) echo "$(files 'crates/*.rt' 'crates/*.antt' | wc -l) files" ;;
-        rust) echo "$(files '*.rs' | wc -l) files" ;;
-        python) echo "$(files '*.py' | wc -l) files" ;;
-        c) echo "$(files '*.c' | wc -l) files" ;;
-        format) echo "$(c_files | wc -l) files" ;;
-        door) echo "$(files 'tests/c/*.c' | wc -l) programs in C" ;;
-        crate) grep -rE '^ *#\[test\]$' bindings/rust | wc -l | sed 's/$/ tests/' ;;
-    esac
-}
-
 # The libraries are built beside the first parts.
-if [[ " ${parts[*]} " =~ \ (door|crate)\  ]] && [ -z "$(missing_of door)" ]; then
-    (find_library nizwarf_door && find_library nizwarf_tree) > "$folder/libraries" 2>&1 &
+if [[ " ${parts[*]} " =~ \ (codec|crate)\  ]] && [ -z "$(missing_of codec)" ]; then
+    (find_library nizwarf_codec && find_library nizwarf_tree) > "$folder/libraries" 2>&1 &
 fi
 failed=() skipped=() times=() number=0
 for part in "${parts[@]}"; do
@@ -170,10 +152,10 @@ for part in "${parts[@]}"; do
         skipped+=("$part")
         continue
     fi
-    echo "$number of ${#parts[@]}: $part, $(count_of "$part") .."
+    echo "$number of ${#parts[@]}: $part .."
     begun=$SECONDS
     # (what is built beside must be there)
-    case $part in door | crate) wait ;; esac
+    case $part in codec | crate) wait ;; esac
     if ! "check_$part" > "$folder/said" 2>&1 < /dev/null; then
         cat "$folder/said"
         echo "FAILED: $part"
@@ -183,7 +165,6 @@ for part in "${parts[@]}"; do
 done
 wait
 echo "Seconds: $(printf '%s, ' "${times[@]}" | sed 's/ s, /, /g; s/, $//'); together $SECONDS."
-tools/dev/changes.py
 command -v rt > /dev/null || echo "The folder bin of the Rattle toolchain is not on the PATH."
 if [ ${#skipped[@]} != 0 ]; then
     echo "Skipped: ${skipped[*]}. apt-get install $(packages_for "${skipped[@]}" | paste -sd ' ')"

@@ -36,7 +36,7 @@ need qemu-system-x86_64 "Install it: apt-get install qemu-system-x86."
 if [ "$by" = --virtiofsd ]; then
     transport=$("$here/tools/virtiofsd.sh")
 elif [ -n "$shared" ]; then
-    build_transport share nizwarf_door
+    build_transport share nizwarf_codec
 else
     build_transport vhost
 fi

@@ -9,7 +9,7 @@
 #
 # libfuse's sources are a package of Debian, fuse3 of the machine's own suite, or of another one, as sid: apt-get
 # downloads them by lists of its own, with Debian's changes. bindings/libfuse/make.py leaves what is replaced out of
-# lib/fuse_lowlevel.c, and puts the files beside it there; lib/meson.build links the library of the door. No other
+# lib/fuse_lowlevel.c, and puts the files beside it there; lib/meson.build links the library of the codec. No other
 # file changes. Known are the versions 3.14.0 and 3.18.3.
 #
 # With --unmodified it builds libfuse as it is, into FOLDER/unmodified. With --all it builds libfuse's examples and
@@ -70,7 +70,7 @@ if [ "$ring" = true ]; then
 fi
 folder=$(realpath -m "${folder:-$here/out/libfuse}")
 mkdir -p "$folder"
-[ "$kind" = unmodified ] || find_library nizwarf_door
+[ "$kind" = unmodified ] || find_library nizwarf_codec
 
 # The sources of the package, with Debian's changes. (`set -e` means nothing where a function is judged)
 fetch() {
@@ -117,24 +117,29 @@ renew() {
 
 # Puts what is here into the copy of libfuse's sources.
 replace() {
-    local file archives
+    local file archives=() sanitizer=()
+    [ "$sanitize" = none ] || sanitizer=("-fsanitize=$sanitize")
     "$here/bindings/libfuse/make.py" "$source/lib/fuse_lowlevel.c" > "$work/fuse_lowlevel.c" 2> "$work/left-out" || {
         cat "$work/left-out"
         return 1
     }
     renew "$work/fuse_lowlevel.c" "$work/tree/lib/fuse_lowlevel.c"
-    for file in "$here"/bindings/libfuse/*.h "$here"/include/nizwarf.h "$here"/include/nizwarf_tree.h; do
+    for file in "$here"/bindings/libfuse/*.h "$here"/include/nizwarf.h; do
         renew "$file" "$work/tree/lib/${file##*/}"
     done
-    for file in "${library[@]}"; do
+    # The C files of the library, as an archive: of these objects, the linker takes those that libfuse uses.
+    rm -rf "$work/objects" && mkdir "$work/objects" || return 1
+    compile_sources "$work/objects" -O2 "${sanitizer[@]}" || return 1
+    ar rcsD "$work/objects/libnizwarf_c.a" "$work"/objects/*.o || return 1
+    for file in "$work/objects/libnizwarf_c.a" "$archive" "$heap"; do
         renew "$file" "$work/tree/lib/${file##*/}"
+        archives+=("'$work/tree/lib/${file##*/}'")
     done
-    archives="'$work/tree/lib/${library[0]##*/}', '$work/tree/lib/${library[1]##*/}'"
-    # Both libraries are linked into libfuse's own, which is made anew if the door's changes.
-    sed -E "s#link_args: \['-Wl,--version-script,'#link_args: [$archives, '-Wl,--version-script,'#
-        s#link_depends: 'fuse_versionscript'#link_depends: ['fuse_versionscript', '${library[0]##*/}']#" \
+    # All are linked into libfuse's own library, which is made anew if one of these changes.
+    sed -E "s#link_args: \['-Wl,--version-script,'#link_args: [$(IFS=, && echo "${archives[*]}"), '-Wl,--version-script,'#
+        s#link_depends: 'fuse_versionscript'#link_depends: ['fuse_versionscript', '${archive##*/}', 'libnizwarf_c.a']#" \
         "$source/lib/meson.build" > "$work/meson.build"
-    if ! grep -q libnizwarf_door "$work/meson.build"; then
+    if ! grep -q libnizwarf_codec "$work/meson.build"; then
         echo "libfuse's lib/meson.build links in a way that isn't known here." >&2
         return 1
     fi

@@ -5,7 +5,7 @@
 # Usage: tools/package.sh [--unproved] [--check] [--no-demo] [--out FOLDER]
 # It leaves in out/packages, or in FOLDER:
 #
-#   libnizwarf0_VERSION_ARCH.deb       the shared library
+#   libnizwarf1_VERSION_ARCH.deb       the shared library
 #   libnizwarf-dev_VERSION_ARCH.deb    headers, the static library, pages, examples
 #   nizwarf_VERSION_ARCH.deb           the programs that programs/Makefile lists, nizwarf-demo and
 #                                      nizwarf-decode
@@ -64,26 +64,30 @@ need make "Install it: apt-get install make."
 need gzip "Install it: apt-get install gzip."
 need python3 "Install it: apt-get install python3."
 
+# How C is compiled, in libraries and programs.
+hardened=(-O2 -D_FORTIFY_SOURCE=2 -fstack-protector-strong -fstack-clash-protection -fcf-protection
+    "-ffile-prefix-map=$here=.")
 # The programs, as programs/Makefile lists them; and what Debian calls this kind of machine.
 programs=$(make -s -f "$here/programs/Makefile" list)
 triplet=x86_64-linux-gnu
 work=$(mktemp -d)
 trap 'rm -rf "$work"' EXIT
 
-# Finds what is packed, as `packed`, and sets `proved` by whether all of it is.
+# Finds what is packed, as `packed` the static libraries and as `code` the C files, and sets `proved` by whether all of the
+# first is.
 find_parts() {
-    local name parts=(nizwarf_door nizwarf_tree nizwarf_border)
+    local name parts=(nizwarf_codec nizwarf_tree nizwarf_border)
     [ -z "$demo" ] || parts+=(vfs_demo vfs_decode)
     [ -n "$unproved" ] || prove_crates "${parts[@]}"
     proved=yes
     for name in "${parts[@]}"; do
         has_proof "$name" || proved=
     done
-    for name in nizwarf_door nizwarf_tree; do
+    for name in nizwarf_codec nizwarf_tree; do
         find_library "$name"
-        packed+=("${library[0]}")
+        packed+=("$archive")
+        code+=("${sources[@]}")
     done
-    heap=${library[1]}
     find_border
     [ -z "$demo" ] || build_programs vfs_demo vfs_decode
     set_source nizwarf "$release"
@@ -103,7 +107,7 @@ join_library() {
 
 # The functions that the headers declare, or all that they have, inline ones too.
 declared() {
-    sed -nE 's/^(u?int[0-9]+_t|size_t) (nizwarf_\w+)\(.*/\2/p' "$here"/include/*.h | sort
+    sed -nE '/^static /d; s/^([a-z]\w* )+(nizwarf_\w+)\(.*/\2/p' "$here"/include/*.h | sort
 }
 functions() {
     { declared && sed -nE 's/^static inline .*\b(nizwarf_\w+)\(.*/\1/p' "$here"/include/*.h; } | sort
@@ -111,14 +115,16 @@ functions() {
 
 # Makes the two libraries in a folder.
 make_libraries() {
-    local folder=$1 others needed
-    mkdir -p "$folder"
-    join_library "${packed[0]}" "$work/door.o"
+    local folder=$1 others needed sources=("${code[@]}")
+    mkdir -p "$folder" "$work/objects"
+    compile_sources "$work/objects" "${hardened[@]}"
+    join_library "${packed[0]}" "$work/codec.o"
     join_library "${packed[1]}" "$work/tree.o"
     rm -f "$folder/libnizwarf.a"
-    ar rcsD "$folder/libnizwarf.a" "$work/door.o" "$work/tree.o"
+    ar rcsD "$folder/libnizwarf.a" "$work/codec.o" "$work/tree.o" "$work"/objects/*.o
     cc -shared -o "$folder/$soname.${release#*.}" -Wl,-soname,"$soname" \
-        -Wl,--version-script="$packaging/nizwarf.map" -Wl,-z,defs,-z,relro,-z,now,--gc-sections,--build-id=sha1 \
+        -Wl,--version-script="$packaging/nizwarf.map" -Wl,-Bsymbolic-functions \
+        -Wl,-z,defs,-z,relro,-z,now,--gc-sections,--build-id=sha1 \
         -Wl,--whole-archive "$folder/libnizwarf.a" -Wl,--no-whole-archive
     strip --strip-unneeded --remove-section=.comment "$folder/$soname.${release#*.}"
     chmod 644 "$folder/$soname.${release#*.}"
@@ -159,8 +165,7 @@ put_programs() {
     mkdir -p "$1"
     # shellcheck disable=SC2086
     make -s -C "$1" -f "$here/programs/Makefile" $programs LIBRARY="$2" BORDER="$border" INCLUDE="$here/include" CPPFLAGS= LDLIBS= \
-        CFLAGS="-O2 -Wall -Wextra -D_FORTIFY_SOURCE=2 -fstack-protector-strong -fstack-clash-protection -fPIE -pie \
-            -fcf-protection -ffile-prefix-map=$here=." LDFLAGS=-Wl,-z,relro,-z,now
+        CFLAGS="${hardened[*]} -Wall -Wextra -fPIE -pie" LDFLAGS=-Wl,-z,relro,-z,now
     for_programs strip_program "$1"
 }
 strip_program() {
@@ -286,20 +291,20 @@ make_tarball() {
 # The packages of Debian, from the tree of the tarball. Programs link the shared library there.
 make_debs() {
     local tree=$1 folder=$2 out=$3 lib=usr/lib/$triplet root script
-    root=$folder/libnizwarf0
+    root=$folder/libnizwarf1
     mkdir -p "$root/$lib" "$root/DEBIAN"
     cp -P "$tree/lib/$soname"* "$root/$lib/"
-    echo "libnizwarf ${release%%.*} libnizwarf0 (>= $release~)" > "$root/DEBIAN/shlibs"
+    echo "libnizwarf ${soname##*.} libnizwarf1 (>= $release~)" > "$root/DEBIAN/shlibs"
     {
-        echo "$soname libnizwarf0 #MINVER#"
+        echo "$soname libnizwarf1 #MINVER#"
         echo "* Build-Depends-Package: libnizwarf-dev"
-        # (a node of NIZWARF_0.3 came with 0.3.0)
+        # (a node of NIZWARF_0.4 came with 0.4.0)
         sed -nE 's/^(NIZWARF_([0-9.]+)) \{$/ \1@\1 \2.0~/p' "$packaging/nizwarf.map"
         # (~: an earlier build, as ~unproved, is enough)
         exported "$root/$lib/$soname" | sed -E 's/^(.*@NIZWARF_(.*))$/ \1 \2.0~/'
     } > "$root/DEBIAN/symbols"
     echo "activate-noawait ldconfig" > "$root/DEBIAN/triggers"
-    make_deb libnizwarf0 "$root" "$out"
+    make_deb libnizwarf1 "$root" "$out"
 
     root=$folder/libnizwarf-dev
     mkdir -p "$root/$lib/pkgconfig" "$root/usr/share/doc/libnizwarf-dev" "$root/usr/share/man"
@@ -309,7 +314,7 @@ make_debs() {
     cp -R "$tree/share/doc/nizwarf/examples" "$root/usr/share/doc/libnizwarf-dev/"
     sed -e 's,^prefix=.*,prefix=/usr,' -e "s,/lib\$,/lib/$triplet," "$tree/lib/pkgconfig/nizwarf.pc" \
         > "$root/$lib/pkgconfig/nizwarf.pc"
-    make_deb libnizwarf-dev "$root" "$out" "libnizwarf0 (= $version-1)"
+    make_deb libnizwarf-dev "$root" "$out" "libnizwarf1 (= $version-1)"
 
     root=$folder/nizwarf
     mkdir -p "$root/usr/share"/{man,qemu/vhost-user}
@@ -339,7 +344,7 @@ make_all() {
     fi
 }
 
-packed=()
+packed=() code=()
 part "the libraries"
 find_parts
 debs=yes
@@ -366,7 +371,7 @@ if [ -n "$check" ]; then
 fi
 mkdir -p "$out"
 # (of an older version: what lies there is one version)
-rm -f "$out"/{libnizwarf0,libnizwarf-dev,nizwarf}_*.deb "$out"/nizwarf-*.tar.gz
+rm -f "$out"/{libnizwarf1,libnizwarf-dev,nizwarf}_*.deb "$out"/nizwarf-*.tar.gz
 mv "$work"/out/* "$out/"
 (cd "$out" && stat -c '%8s  %n' ./*nizwarf* | sed 's,\./,,')
 echo "They are in $out."

@@ -1,6 +1,6 @@
 #!/usr/bin/env bash
 # Shares a folder of the host: mounts it on another one over /dev/fuse, or serves it to a virtual machine over
-# vhost-user. The protocol is that of the library nizwarf_door; the program is programs/share, of which nothing is
+# vhost-user. The protocol is that of the library nizwarf_codec; the program is programs/share, of which nothing is
 # proved.
 #
 # Usage: tools/share.sh FOLDER MOUNTPOINT [WORDS]
@@ -30,6 +30,6 @@ case $#:${1:-} in
         exit 2
         ;;
 esac
-build_transport share nizwarf_door
+build_transport share nizwarf_codec
 # (in its place, so that signals are the program's)
 exec "$transport" "$@"

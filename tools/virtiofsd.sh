@@ -80,7 +80,7 @@ link_library() {
 # These are linked by their names without a version, which packages for development have.
 link_library cap-ng libcap-ng0
 link_library seccomp libseccomp2
-[ -n "$unmodified" ] || find_library nizwarf_door
+[ -n "$unmodified" ] || find_library nizwarf_codec
 
 # Copies a file if the other is not the same, so that its time stays where nothing changed.
 renew() {
@@ -132,7 +132,7 @@ if [ -z "$unmodified" ]; then
     for file in "$here"/bindings/virtiofsd/*.rs; do
         renew "$file" "$tree/src/${file##*/}"
     done
-    for file in "${library[@]}"; do
+    for file in "$archive" "$heap"; do
         renew "$file" "$folder/lib/${file##*/}"
     done
     needed+=("$folder/lib" "$here"/bindings/rust/{src,build.rs,Cargo.toml})

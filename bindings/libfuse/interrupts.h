@@ -24,7 +24,7 @@ static int has_interrupts(const struct fuse_session *se)
 /* How many are kept. Without the session's lock it may lack one that comes now: the next who looks finds that. */
 static unsigned int count_kept(struct fuse_session *se)
 {
-	return __atomic_load_n(&door_of(se)->kept, __ATOMIC_RELAXED);
+	return __atomic_load_n(&codec_of(se)->kept, __ATOMIC_RELAXED);
 }
 
 /* Ends an interrupt that is in no list, without a reply, for which nobody waits. */
@@ -44,7 +44,7 @@ static struct fuse_req *take_kept(struct fuse_session *se, struct fuse_req *inte
 	list_init_req(interrupt);
 	/* (a union: of an interrupt it has the request's number, of others what is called if they are interrupted) */
 	memset(&interrupt->u, 0, sizeof(interrupt->u));
-	__atomic_store_n(&door_of(se)->kept, count_kept(se) - 1, __ATOMIC_RELAXED);
+	__atomic_store_n(&codec_of(se)->kept, count_kept(se) - 1, __ATOMIC_RELAXED);
 	return interrupt;
 }
 
@@ -71,7 +71,7 @@ static __attribute__((noinline)) void end_oldest(struct fuse_session *se)
 	pthread_mutex_lock(&se->lock);
 	/* (looked at again, now under the lock: another thread may have taken some) */
 	kept = count_kept(se);
-	if (kept > MOST_KEPT || (kept && ++door_of(se)->calls % MOST_KEPT == 0))
+	if (kept > MOST_KEPT || (kept && ++codec_of(se)->calls % MOST_KEPT == 0))
 		oldest = take_kept(se, se->interrupts.next);
 	pthread_mutex_unlock(&se->lock);
 	if (oldest)
@@ -91,7 +91,7 @@ static void interrupt(fuse_req_t req, uint64_t unique)
 		end_interrupt(req);
 	} else {
 		list_add_req(req, &se->interrupts);
-		__atomic_store_n(&door_of(se)->kept, count_kept(se) + 1, __ATOMIC_RELAXED);
+		__atomic_store_n(&codec_of(se)->kept, count_kept(se) + 1, __ATOMIC_RELAXED);
 	}
 	pthread_mutex_unlock(&se->lock);
 	if (count_kept(se) > MOST_EVER)
@@ -99,7 +99,7 @@ static void interrupt(fuse_req_t req, uint64_t unique)
 }
 
 /* (libfuse calls it at the beginning of fuse_req_interrupted and of fuse_req_interrupt_func) */
-static int door_watch(fuse_req_t req)
+static int codec_watch(fuse_req_t req)
 {
 	struct fuse_session *se = req->se;
 	int known;
@@ -131,7 +131,7 @@ static __attribute__((noinline)) void end_overtaken(struct fuse_session *se, uin
 }
 
 /* (libfuse calls it first in fuse_free_req, with any request) */
-static inline int door_end_alone(fuse_req_t req)
+static inline int codec_end_alone(fuse_req_t req)
 {
 	if (unlikely(own_of(req)->known != DOOR_ALONE))
 		/* (one that has ended is let be: its memory is the thread's that ended it) */
@@ -146,7 +146,7 @@ static inline int door_end_alone(fuse_req_t req)
 	return 1;
 }
 
-static void door_end_session(struct fuse_session *se)
+static void codec_end_session(struct fuse_session *se)
 {
 	/* (no lock: the session has no thread left) */
 	while (count_kept(se))

@@ -113,21 +113,21 @@ static inline uint64_t fault_of(const char *at, size_t len)
 
 /* A walk over records: where the next one begins, and what is wrong with names before, which is looked at once, at
  * the end. (a jump for each name would be guessed wrongly, now and then) */
-struct door_walk {
+struct codec_walk {
 	size_t at;	 /* bytes from the listing's begin */
 	__m128i least;	 /* of long names: a 0 in it is a fault */
 	uint64_t faults; /* of short ones: not 0 is a fault */
 };
 
 /* A listing: where the name of a record at 0 is, and how far before a name its record begins. */
-struct door_listing {
+struct codec_listing {
 	const char *names;
 	size_t front; /* bytes: a header, and with PLUS an entry before it */
 };
 
 /* Where a record ends, as its header says, which is there. The length of its name is read once: a thread of the program
  * may write there. */
-static inline size_t end_of_record(struct door_listing l, size_t at, uint32_t *len)
+static inline size_t end_of_record(struct codec_listing l, size_t at, uint32_t *len)
 {
 	/* (names + at - 24 is the header: `names` begins `front` bytes into the listing) */
 	memcpy(len, l.names + at - FUSE_NAME_OFFSET + offsetof(struct fuse_dirent, namelen), sizeof(*len));
@@ -136,7 +136,7 @@ static inline size_t end_of_record(struct door_listing l, size_t at, uint32_t *l
 }
 
 /* Goes past a record, which is there up to its end. */
-static inline void pass_record(struct door_walk *walk, struct door_listing l, uint32_t len, size_t end)
+static inline void pass_record(struct codec_walk *walk, struct codec_listing l, uint32_t len, size_t end)
 {
 	if (len >= PIECE)
 		walk->least = least_of(walk->least, l.names + walk->at, len);
@@ -153,7 +153,7 @@ enum {
 };
 
 /* Where a record in the middle may begin: there a short length and a type are beside each other. 0: nowhere. */
-static inline size_t guess_middle(struct door_listing l, size_t len)
+static inline size_t guess_middle(struct codec_listing l, size_t len)
 {
 	const size_t first = len / 2 / WORD * WORD;
 	uint64_t numbers;
@@ -179,9 +179,9 @@ _Static_assert(offsetof(struct fuse_dirent, type) + sizeof(uint32_t) == FUSE_NAM
  * all else. The second half counts if the first one ends where it began: a wrong guess costs time alone. `last` is
  * where the last header may be. A name that looks like a header makes a wrong guess, or a hostile one: of that half
  * nothing is kept then. */
-static inline void pass_halves(struct door_walk *walk, struct door_listing l, size_t middle, size_t last)
+static inline void pass_halves(struct codec_walk *walk, struct codec_listing l, size_t middle, size_t last)
 {
-	struct door_walk half = { middle, walk->least, 0 };
+	struct codec_walk half = { middle, walk->least, 0 };
 	size_t end, other_end;
 	uint32_t len, other;
 
@@ -209,8 +209,8 @@ static __attribute__((noinline)) size_t count_whole(const nizwarf_call *call, co
 {
 	const size_t front =
 		FUSE_NAME_OFFSET + (call->has & NIZWARF_PLUS ? sizeof(struct fuse_entry_out) : 0);
-	const struct door_listing l = { records + front, front };
-	struct door_walk walk = { 0, _mm_set1_epi8(-1), 0 };
+	const struct codec_listing l = { records + front, front };
+	struct codec_walk walk = { 0, _mm_set1_epi8(-1), 0 };
 	size_t middle, end;
 	uint32_t name_len;
 

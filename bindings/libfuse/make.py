@@ -1,5 +1,5 @@
 #!/usr/bin/env python3
-"""Makes fuse_lowlevel.c over the door: of a package's own file, without what is replaced, and the files beside this one.
+"""Makes fuse_lowlevel.c over the codec: of a package's own file, without what is replaced, and the files beside this one.
 
 Usage: bindings/libfuse/make.py FUSE_LOWLEVEL_C
 It writes that to the standard output, and to the standard error how many lines were left out. Status 1: the file is of
@@ -8,7 +8,7 @@ a version whose functions have other names, so that what is to be replaced isn't
 import re
 import sys
 
-# Functions that must all be there: the door is built on them.
+# Functions that must all be there: the codec is built on them.
 REPLACED = """send_reply_iov send_notify_iov fuse_reply_entry fuse_reply_attr fuse_reply_write fuse_reply_data
 fuse_lowlevel_notify_store fuse_ll_alloc_req fill_entry fuse_add_direntry fuse_add_direntry_plus check_interrupt do_lookup
 do_forget do_read do_write_buf do_setattr do_interrupt do_notify_reply opname""".split()
@@ -28,15 +28,15 @@ HAS = {
     "HAVE_RETRIEVE_HEADER": r"sizeof\(struct fuse_in_header\) \+\s*sizeof\(struct fuse_notify_retrieve_in\)",
 }
 SHORT = r'^\tif \((?:\(size_t\) ?)?res < sizeof\(struct fuse_in_header\)\) \{\n[^\n]*"short [^\n]*\n\t\treturn -EIO;\n\t\}\n'
-# How a session and a request are allocated and freed: with what the door wants of them after it. And where a file system
+# How a session and a request are allocated and freed: with what the codec wants of them after it. And where a file system
 # asks for interrupts: only from then on others know of its request.
 OWN = (
-    (r"\(struct fuse_session \*\) ?calloc\(1, sizeof\(struct fuse_session\)\)", "door_take_session()"),
-    (r"pthread_mutex_destroy\(&req->lock\);\n\tfree\(req\);", "door_give_req(req);"),
-    (r"(void fuse_free_req\(fuse_req_t req\)\n\{\n)", r"\1\tif (door_end_alone(req))\n\t\treturn;\n\n"),
-    (r"(void fuse_req_interrupt_func\([^{]*\{\n)", r"\1\tif (!door_watch(req))\n\t\treturn;\n"),
-    (r"(int fuse_req_interrupted\([^{]*\{\n)", r"\1\tif (!door_watch(req))\n\t\treturn 0;\n"),
-    (r"(void fuse_session_destroy\([^{]*\{\n)", r"\1\tdoor_end_session(se);\n"),
+    (r"\(struct fuse_session \*\) ?calloc\(1, sizeof\(struct fuse_session\)\)", "codec_take_session()"),
+    (r"pthread_mutex_destroy\(&req->lock\);\n\tfree\(req\);", "codec_give_req(req);"),
+    (r"(void fuse_free_req\(fuse_req_t req\)\n\{\n)", r"\1\tif (codec_end_alone(req))\n\t\treturn;\n\n"),
+    (r"(void fuse_req_interrupt_func\([^{]*\{\n)", r"\1\tif (!codec_watch(req))\n\t\treturn;\n"),
+    (r"(int fuse_req_interrupted\([^{]*\{\n)", r"\1\tif (!codec_watch(req))\n\t\treturn 0;\n"),
+    (r"(void fuse_session_destroy\([^{]*\{\n)", r"\1\tcodec_end_session(se);\n"),
 )
 # The memory for what a client sends.
 ROOM = r"= (malloc\(se->bufsize\)|buf_alloc\(bufsize, internal\));"
@@ -77,7 +77,7 @@ def main():
         kept, count = re.subn(was, is_now, kept)
         if count != 1:
             sys.exit(f"fuse_lowlevel.c doesn't allocate and free its structs as is known here: no {was}.")
-    # A message that is shorter than a header ends no session: the door refuses it.
+    # A message that is shorter than a header ends no session: the codec refuses it.
     kept, count = re.subn(SHORT, "", kept, flags=re.M)
     if count != 2:
         sys.exit("fuse_lowlevel.c doesn't receive messages as is known here.")
@@ -85,10 +85,10 @@ def main():
     kept, count = re.subn(ROOM, r"= DOOR_WAIT(\1);", kept)
     if not count:
         sys.exit("fuse_lowlevel.c doesn't allocate messages as is known here.")
-    kept, count = re.subn(r'(#include "mount_util\.h"\n)', r'\1#include "door.h"\n', kept)
+    kept, count = re.subn(r'(#include "mount_util\.h"\n)', r'\1#include "codec.h"\n', kept)
     if count != 1:
         sys.exit("fuse_lowlevel.c doesn't include what is known here.")
-    # What door.h and the files after it ask of the version, by the preprocessor.
+    # What codec.h and the files after it ask of the version, by the preprocessor.
     print("\n".join(f"#define {word} 1" for word in words))
     print(f"#define PROCESS_BUF {process.group(1)}")
     print(f"#define REQ_COUNT {'ref_cnt' if 'req->ref_cnt' in source else 'ctr'}")

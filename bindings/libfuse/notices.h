@@ -1,4 +1,4 @@
-/* Notices. As with replies, libfuse lays a record out, and the door is told what it says. */
+/* Notices. As with replies, libfuse lays a record out, and the codec is told what it says. */
 
 enum {
 	/* The longest notice without a name, and what one with a name has besides. */
@@ -26,7 +26,7 @@ static size_t put_notice_name(int code, const void *record, const struct iovec *
 	return nizwarf_notice_inval_entry(entry->parent, flags, name->iov_base, name->iov_len - 1, out, size);
 }
 
-/* Puts a notice: how many bytes. 0: it is none that the door has, or there is no room. Records are those of fuse.h,
+/* Puts a notice: how many bytes. 0: it is none that the codec has, or there is no room. Records are those of fuse.h,
  * which libfuse has laid out in the piece after the header. */
 static size_t put_notice(int code, const struct iovec *iov, int count, uint8_t *out, size_t size)
 {
@@ -71,7 +71,7 @@ static int send_notify_iov(struct fuse_session *se, int notify_code, struct iove
 	return fuse_send_msg(se, NULL, whole, 1 SEND_OF(NULL));
 }
 
-/* libfuse's function, which puts data into the kernel's memory of a file. Only its header and record are the door's:
+/* libfuse's function, which puts data into the kernel's memory of a file. Only its header and record are the codec's:
  * the data go from where they are, as those of a READ do. */
 int fuse_lowlevel_notify_store(struct fuse_session *se, fuse_ino_t ino, off_t offset,
 			       struct fuse_bufvec *bufv, enum fuse_buf_copy_flags flags)

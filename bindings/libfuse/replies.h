@@ -1,5 +1,5 @@
 /* Replies. libfuse's fuse_reply_* lay the record of an answer out in memory, as fuse.h has it, and hand it to
- * send_reply_iov. Here the door is told what it says, and the reply is what the door puts. So what a file system
+ * send_reply_iov. Here the codec is told what it says, and the reply is what the codec puts. So what a file system
  * answers is held against the call that it was asked: a record of another kind, a number that is no error, a text
  * that is too long come to the caller as an error, where the kernel would refuse the reply, and the caller wait. */
 
@@ -20,23 +20,23 @@ enum {
 };
 
 /* Memory of a thread: a slot, the request that ended last, an answer, and a room for a reply that has a text. */
-struct door_thread {
-	nizwarf_slot slot;	/* what the door keeps between the ask and the reply */
-	struct door_req *spare; /* clean, or NULL */
-	nizwarf_answer answer;	/* of the reply that is made now */
-	uint8_t *room;		/* `size` bytes, or NULL */
+struct codec_thread {
+	nizwarf_scratch slot;	 /* what the codec keeps between the ask and the reply */
+	struct codec_req *spare; /* clean, or NULL */
+	nizwarf_answer answer;	 /* of the reply that is made now */
+	uint8_t *room;		 /* `size` bytes, or NULL */
 	size_t size;
 };
 
-/* The key is for its destructor alone, by which a thread's memory is freed as the thread ends; `door_mine` finds the same
+/* The key is for its destructor alone, by which a thread's memory is freed as the thread ends; `codec_mine` finds the same
  * memory without a call, also from a library, which initial-exec is for. */
-static pthread_key_t door_key;
+static pthread_key_t codec_key;
 /* A process has 1024 keys. Without one no thread has memory here, since it would never be freed. */
-static int door_has_key;
-static __thread __attribute__((tls_model("initial-exec"))) struct door_thread *door_mine;
+static int codec_has_key;
+static __thread __attribute__((tls_model("initial-exec"))) struct codec_thread *codec_mine;
 
 /* Frees a request of which nobody knows any more. */
-static void end_req(struct door_req *req)
+static void end_req(struct codec_req *req)
 {
 	pthread_mutex_destroy(&req->req.lock);
 	free(req);
@@ -45,52 +45,52 @@ static void end_req(struct door_req *req)
 /* (as another destructor of the thread may answer a request after this one, it can be made again) */
 static void end_thread(void *at)
 {
-	struct door_thread *t = at;
+	struct codec_thread *t = at;
 
-	nizwarf_end_slot(&t->slot);
+	nizwarf_scratch_free(&t->slot);
 	free(t->room);
 	if (t->spare)
 		end_req(t->spare);
 	free(t);
-	door_mine = NULL;
+	codec_mine = NULL;
 }
 
 /* As the library is loaded, before any request. */
-static __attribute__((constructor)) void begin_door(void)
+static __attribute__((constructor)) void begin_codec(void)
 {
-	door_has_key = !pthread_key_create(&door_key, end_thread);
+	codec_has_key = !pthread_key_create(&codec_key, end_thread);
 }
 
-static __attribute__((destructor)) void end_door(void)
+static __attribute__((destructor)) void end_codec(void)
 {
-	if (door_has_key)
-		pthread_key_delete(door_key);
+	if (codec_has_key)
+		pthread_key_delete(codec_key);
 }
 
 /* Makes this thread's memory. NULL: there is none. */
-static __attribute__((noinline)) struct door_thread *make_thread(void)
+static __attribute__((noinline)) struct codec_thread *make_thread(void)
 {
-	struct door_thread *t = calloc(1, sizeof(*t));
+	struct codec_thread *t = calloc(1, sizeof(*t));
 
-	if (!t || !door_has_key || pthread_setspecific(door_key, t)) {
+	if (!t || !codec_has_key || pthread_setspecific(codec_key, t)) {
 		free(t);
 		return NULL;
 	}
-	door_mine = t;
+	codec_mine = t;
 	return t;
 }
 
 /* This thread's memory. NULL: there is none. */
-static inline struct door_thread *door_thread(void)
+static inline struct codec_thread *codec_thread(void)
 {
-	struct door_thread *t = door_mine;
+	struct codec_thread *t = codec_mine;
 
 	return likely(t) ? t : make_thread();
 }
 
 /* Makes the room for a reply with a text so long at least. 0: there is no memory. What was in the room stays, but it
  * may be elsewhere. */
-static int make_room(struct door_thread *t, size_t size)
+static int make_room(struct codec_thread *t, size_t size)
 {
 	uint8_t *room;
 
@@ -109,32 +109,32 @@ static int make_room(struct door_thread *t, size_t size)
 static void clean_req(struct fuse_req *req)
 {
 	/* (from `ctx` on: what is before it, the lock among it, stays) */
-	memset(&req->ctx, 0, offsetof(struct door_req, call) - offsetof(struct door_req, req.ctx));
+	memset(&req->ctx, 0, offsetof(struct codec_req, call) - offsetof(struct codec_req, req.ctx));
 	/* (a number of libfuse's, which has two names: how many ends it takes) */
 	req->REQ_COUNT = 1;
 	list_init_req(req);
 }
 
 /* Makes a request that is clean. NULL: there is no memory. */
-static __attribute__((noinline)) struct door_req *make_req(void)
+static __attribute__((noinline)) struct codec_req *make_req(void)
 {
-	struct door_req *made = calloc(1, sizeof(*made));
+	struct codec_req *made = calloc(1, sizeof(*made));
 
 	if (!made)
 		return NULL;
 	pthread_mutex_init(&made->req.lock, NULL);
 	clean_req(&made->req);
 	/* (0 is another kind: without a call none may be answered by a record) */
-	made->call.answer = NIZWARF_QUIET;
+	made->call.reply = NIZWARF_REPLY_NONE;
 	return made;
 }
 
 /* A request, without its call. A thread mostly ends the one that it took: the next one has its memory. NULL: there is
  * none. */
-static inline struct fuse_req *door_take_req(struct fuse_session *se)
+static inline struct fuse_req *codec_take_req(struct fuse_session *se)
 {
-	struct door_thread *t = door_thread();
-	struct door_req *taken;
+	struct codec_thread *t = codec_thread();
+	struct codec_req *taken;
 
 	if (unlikely(!t))
 		return NULL;
@@ -155,8 +155,8 @@ static inline struct fuse_req *door_take_req(struct fuse_session *se)
 /* Keeps the memory of a request that is clean. Until it is taken, whoever answers the request again is told. */
 static inline void keep_req(struct fuse_req *req)
 {
-	struct door_thread *t = door_mine;
-	struct door_req *own = own_of(req);
+	struct codec_thread *t = codec_mine;
+	struct codec_req *own = own_of(req);
 
 #ifdef __SANITIZE_ADDRESS__
 	/* (which sees what is used after its end) (so nothing is kept, and a second answer is found) */
@@ -165,8 +165,8 @@ static inline void keep_req(struct fuse_req *req)
 	/* (one a thread is enough: who answers on another thread has mostly another request to end) */
 	if (likely(t && !t->spare)) {
 		own->known = DOOR_ENDED;
-		own->call.call = 0; /* no call: what is read of it by who answers again */
-		own->call.answer = NIZWARF_QUIET;
+		own->call.opcode = 0; /* no call: what is read of it by who answers again */
+		own->call.reply = NIZWARF_REPLY_NONE;
 		t->spare = own;
 	} else {
 		end_req(own);
@@ -174,30 +174,30 @@ static inline void keep_req(struct fuse_req *req)
 }
 
 /* (its session has let go of it: clean_req takes its links out of the list) */
-static void door_give_req(struct fuse_req *req)
+static void codec_give_req(struct fuse_req *req)
 {
 	clean_req(req);
 	keep_req(req);
 }
 
-static struct fuse_session *door_take_session(void)
+static struct fuse_session *codec_take_session(void)
 {
-	struct door_session *door = calloc(1, sizeof(*door));
+	struct codec_session *codec = calloc(1, sizeof(*codec));
 
-	if (!door)
+	if (!codec)
 		return NULL;
 	/* (until an INIT is answered: a request before that is refused, but must be read) */
-	door->sizes = (uint32_t)pagesize | (uint64_t)FIRST_BUFFER << 32;
-	return &door->se;
+	codec->sizes = (uint32_t)pagesize | (uint64_t)FIRST_BUFFER << 32;
+	return &codec->se;
 }
 
 /* The session as it is now: an INIT may be answered meanwhile, if the client isn't a kernel. */
 static inline nizwarf_session session_of(struct fuse_session *se)
 {
-	struct door_session *door = door_of(se);
-	const uint64_t sizes = __atomic_load_n(&door->sizes, __ATOMIC_RELAXED);
+	struct codec_session *codec = codec_of(se);
+	const uint64_t sizes = __atomic_load_n(&codec->sizes, __ATOMIC_RELAXED);
 	const nizwarf_session session = {
-		.options = __atomic_load_n(&door->options, __ATOMIC_RELAXED),
+		.options = __atomic_load_n(&codec->options, __ATOMIC_RELAXED),
 		.page_size = (uint32_t)sizes,
 		.max_buffer = (uint32_t)(sizes >> 32),
 	};
@@ -205,16 +205,16 @@ static inline nizwarf_session session_of(struct fuse_session *se)
 	return session;
 }
 
-/* `told` before an ask or an answer. (the door changes `options` at an INIT and a DESTROY alone) */
-static inline void begin_told(nizwarf_told *told, uint64_t options)
+/* `told` before an ask or an answer. (the codec changes `options` at an INIT and a DESTROY alone) */
+static inline void begin_told(nizwarf_result *result, uint64_t options)
 {
-	memset(told, 0, sizeof(*told));
-	told->options = options;
+	memset(result, 0, sizeof(*result));
+	result->options = options;
 }
 
 /* An answer of this thread, in which a kind's own fields are still to be set: no other kind reads them. (not all of
  * it is cleared: that would be 256 bytes a reply) */
-static void begin_answer(struct door_thread *t)
+static void begin_answer(struct codec_thread *t)
 {
 	nizwarf_answer *answer = &t->answer;
 
@@ -324,7 +324,7 @@ static inline int take_record(void *to, size_t size, const struct iovec *iov, in
 
 /* An INIT's: what libfuse and the file system agreed on, of what the client offers. As fuse_init_out of 7.43,
  * whatever version's fuse.h is there. */
-struct door_init {
+struct codec_init {
 	uint32_t major, minor, max_readahead, flags;
 	uint16_t max_background, congestion_threshold;
 	uint32_t max_write, time_gran;
@@ -334,20 +334,20 @@ struct door_init {
 };
 
 enum {
-	/* What Linux has where a server says 0, which the door can't say. */
+	/* What Linux has where a server says 0, which the codec can't say. */
 	KERNEL_BACKGROUND = 12,
 	KERNEL_CONGESTION = 9,
 	/* The largest payload of a READ where MAX_PAGES isn't agreed on. */
 	LEAST_BUFFER = FUSE_DEFAULT_MAX_PAGES_PER_REQ * 4096, /* 128 KiB */
-	MOST_BUFFER = 134217728,			      /* 128 MiB, the door's limit */
+	MOST_BUFFER = 134217728,			      /* 128 MiB, the codec's limit */
 };
 
 /* Besides the answer, it sets the session's largest payload, which other threads read: before the reply is sent, so
  * that no request meets the old one. */
-static int tell_init(fuse_req_t req, nizwarf_answer *answer, nizwarf_init_more *more, const struct iovec *iov,
-		     int count)
+static int tell_init(fuse_req_t req, nizwarf_answer *answer, nizwarf_init_params *more,
+		     const struct iovec *iov, int count)
 {
-	struct door_init said;
+	struct codec_init said;
 	uint64_t buffer, flags;
 
 	if (!take_record(&said, sizeof(said), iov, count))
@@ -370,7 +370,7 @@ static int tell_init(fuse_req_t req, nizwarf_answer *answer, nizwarf_init_more *
 		buffer = LEAST_BUFFER;
 	if (buffer > MOST_BUFFER)
 		buffer = MOST_BUFFER;
-	__atomic_store_n(&door_of(req->se)->sizes, (uint32_t)pagesize | buffer << 32, __ATOMIC_RELAXED);
+	__atomic_store_n(&codec_of(req->se)->sizes, (uint32_t)pagesize | buffer << 32, __ATOMIC_RELAXED);
 	/* (with what else was agreed on, the reply is no virtiofsd's: `more` is the text that says so) */
 	nizwarf_init_keep(call_of(req), flags);
 	nizwarf_answer_options(answer, flags);
@@ -468,18 +468,19 @@ static int tell_number(nizwarf_answer *answer, const struct iovec *iov, int coun
 
 /* Bytes, which are put together in the thread's room: a reply may overlap its text. With an error it answers 1 too:
  * that is what is told then. ERANGE: the caller wants fewer bytes. */
-static int tell_text(const nizwarf_call *call, struct door_thread *t, const struct iovec *iov, int count)
+static int tell_text(const nizwarf_call *call, struct codec_thread *t, const struct iovec *iov, int count)
 {
 	const size_t len = length_of(iov, count);
 	nizwarf_answer *answer = &t->answer;
 	nizwarf_ioctl record;
 
-	if (call->call == NIZWARF_READLINK && len > LONGEST_LINK)
+	if (call->opcode == NIZWARF_READLINK && len > LONGEST_LINK)
 		return 0;
 	/* (it isn't copied first: there may be no such bytes) */
-	if (nizwarf_is_record(call) && len > LONGEST_RETRY && len - sizeof(record) > call->size)
+	if (call->reply == NIZWARF_REPLY_BYTES && call->opcode != NIZWARF_READLINK && len > LONGEST_RETRY &&
+	    len - sizeof(record) > call->size)
 		return 0;
-	if (call->answer == NIZWARF_TEXT_OR_COUNT && len > call->size) {
+	if (call->reply == NIZWARF_REPLY_BYTES_OR_SIZE && len > call->size) {
 		answer->error = ERANGE;
 		return 1;
 	}
@@ -492,7 +493,7 @@ static int tell_text(const nizwarf_call *call, struct door_thread *t, const stru
 	answer->text = t->room;
 	answer->text_len = len;
 	/* (no more than was asked for is handed out; with RETRY pairs of places follow, which Linux reads itself) */
-	if (call->call == NIZWARF_IOCTL && len >= sizeof(record)) {
+	if (call->opcode == NIZWARF_IOCTL && len >= sizeof(record)) {
 		memcpy(&record, t->room, sizeof(record));
 		return record.flags & FUSE_IOCTL_RETRY || len - sizeof(record) <= call->size;
 	}
@@ -500,7 +501,8 @@ static int tell_text(const nizwarf_call *call, struct door_thread *t, const stru
 }
 
 /* Of an attribute whose length is asked for, `size` is 0. */
-static int tell_attribute(const nizwarf_call *call, struct door_thread *t, const struct iovec *iov, int count)
+static int tell_attribute(const nizwarf_call *call, struct codec_thread *t, const struct iovec *iov,
+			  int count)
 {
 	if (call->size)
 		return tell_text(call, t, iov, count);
@@ -510,34 +512,34 @@ static int tell_attribute(const nizwarf_call *call, struct door_thread *t, const
 
 /* Sets this thread's answer by the record that libfuse laid out. 0: it's none of the kind that the call is answered
  * by. */
-static int tell(fuse_req_t req, struct door_thread *t, nizwarf_init_more *more, const struct iovec *iov,
+static int tell(fuse_req_t req, struct codec_thread *t, nizwarf_init_params *more, const struct iovec *iov,
 		int count)
 {
 	const nizwarf_call *call = call_of(req);
 	nizwarf_answer *answer = &t->answer;
 
-	switch (call->answer) {
-	case NIZWARF_DONE:
+	switch (call->reply) {
+	case NIZWARF_REPLY_STATUS:
 		return !length_of(iov, count); /* nothing but the error 0 */
-	case NIZWARF_WANT:
+	case NIZWARF_REPLY_INIT:
 		return tell_init(req, answer, more, iov, count);
-	case NIZWARF_ENTRY:
+	case NIZWARF_REPLY_ENTRY:
 		return tell_entry(answer, iov, count);
-	case NIZWARF_ATTR:
+	case NIZWARF_REPLY_ATTR:
 		return tell_attr(answer, iov, count);
-	case NIZWARF_OPENED:
+	case NIZWARF_REPLY_OPEN:
 		return tell_opened(answer, iov, count);
-	case NIZWARF_CREATED:
+	case NIZWARF_REPLY_CREATE:
 		return tell_created(answer, iov, count);
-	case NIZWARF_STATISTICS:
+	case NIZWARF_REPLY_STATFS:
 		return tell_statistics(answer, iov, count);
-	case NIZWARF_TEXT:
+	case NIZWARF_REPLY_BYTES:
 		return tell_text(call, t, iov, count);
-	case NIZWARF_TEXT_OR_COUNT:
+	case NIZWARF_REPLY_BYTES_OR_SIZE:
 		return tell_attribute(call, t, iov, count);
-	case NIZWARF_OFFSET:
+	case NIZWARF_REPLY_OFFSET:
 		return take_record(&answer->count, sizeof(answer->count), iov, count);
-	case NIZWARF_WRITTEN:
+	case NIZWARF_REPLY_COUNT:
 		return tell_number(answer, iov, count);
 	default: /* (QUIET, DATA and DIRECTORY are answered elsewhere) */
 		return 0;
@@ -546,7 +548,7 @@ static int tell(fuse_req_t req, struct door_thread *t, nizwarf_init_more *more, 
 
 /* ---- To reply --------------------------------------------------------------------------------------- */
 
-/* A header alone, of what the door has no reply for: a request that it refused, a DESTROY, and where it has no
+/* A header alone, of what the codec has no reply for: a request that it refused, a DESTROY, and where it has no
  * memory. `error` is 0 or below. It ends the request. Answered is what sending came to, or -EINVAL where the request
  * has ended before. */
 static int send_header(fuse_req_t req, int error)
@@ -563,7 +565,7 @@ static int send_header(fuse_req_t req, int error)
 	return res;
 }
 
-/* Sends what the door put, with data after it: `iov` has a place for that in front. It ends the request. (Once the
+/* Sends what the codec put, with data after it: `iov` has a place for that in front. It ends the request. (Once the
  * reply is sent a client may use the number again, and send an interrupt: so nothing of the request is looked at then
  * but who knows of it.) */
 static inline int send_put(fuse_req_t req, uint8_t *put, size_t len, struct iovec *iov, int count)
@@ -573,7 +575,7 @@ static inline int send_put(fuse_req_t req, uint8_t *put, size_t len, struct iove
 	iov[0].iov_base = put;
 	iov[0].iov_len = len;
 	res = fuse_send_msg(req->se, req->ch, iov, count SEND_OF(req));
-	if (!door_end_alone(req))
+	if (!codec_end_alone(req))
 		fuse_free_req(req);
 	return res;
 }
@@ -585,116 +587,116 @@ static int send_lost(fuse_req_t req, int error)
 	return -ENOENT;
 }
 
-/* The door made no reply of an answer: an error goes in its place. */
+/* The codec made no reply of an answer: an error goes in its place. */
 static __attribute__((noinline)) int send_none(fuse_req_t req, int32_t code)
 {
-	fuse_log(FUSE_LOG_ERR, "fuse: no reply to call %u: %d\n", call_of(req)->call, code);
+	fuse_log(FUSE_LOG_ERR, "fuse: no reply to call %u: %d\n", call_of(req)->opcode, code);
 	return send_lost(req, code == NIZWARF_OUT_OF_MEMORY ? -ENOMEM : -EIO);
 }
 
-/* The door's reply to a call, by this thread's answer, if it has neither text nor items: it stays in the slot. The
+/* The codec's reply to a call, by this thread's answer, if it has neither text nor items: it stays in the slot. The
  * session may change while a request waits: the reply goes by what was agreed on when it was asked, which `call`
  * has. */
-static inline int32_t put_answer(fuse_req_t req, struct door_thread *t, nizwarf_told *told)
+static inline int32_t put_answer(fuse_req_t req, struct codec_thread *t, nizwarf_result *result)
 {
 	const nizwarf_session session = session_of(req->se);
 	const nizwarf_answer *answer = &t->answer;
 	const nizwarf_call *call = call_of(req);
 
-	begin_told(told, call->options);
+	begin_told(result, call->options);
 	/* (a pointer to something, also where there is nothing) */
-	return nizwarf_answer_at(&t->slot, &session, call, answer, (const uint8_t *)answer, 0,
-				 (const nizwarf_item *)(const void *)answer, 0, told);
+	return nizwarf_encode_at(&t->slot, &session, call, answer, (const uint8_t *)answer, 0,
+				 (const nizwarf_dirent *)(const void *)answer, 0, result);
 }
 
 /* Answers a call by this thread's answer, which is an error or a record alone. Besides send_answer there is this one
  * since most replies are such: it wants no memory but the stack's. */
-static int send_record(fuse_req_t req, struct door_thread *t)
+static int send_record(fuse_req_t req, struct codec_thread *t)
 {
 	_Alignas(struct fuse_out_header) uint8_t reply[SMALL_ROOM];
 	struct iovec iov[1];
-	nizwarf_told told;
+	nizwarf_result result;
 	int32_t code;
 
 	/* (the ask may have had more room; a reply that fits in less is the same) */
-	call_of(req)->room = SMALL_ROOM;
-	code = put_answer(req, t, &told);
-	if (unlikely(code != NIZWARF_OK || !told.len))
+	call_of(req)->reply_size = SMALL_ROOM;
+	code = put_answer(req, t, &result);
+	if (unlikely(code != NIZWARF_OK || !result.len))
 		return send_none(req, code);
-	nizwarf_copy_slot_at(&t->slot, 0, reply, sizeof(reply));
-	return send_put(req, reply, told.put, iov, 1);
+	nizwarf_scratch_copy_at(&t->slot, 0, reply, sizeof(reply));
+	return send_put(req, reply, result.written, iov, 1);
 }
 
 /* Answers a call by this thread's answer, which may have a text, or say more than its record. Of an INIT it sets the
  * session's options, before the reply goes out: the next request may come at once, on another thread. */
-static int send_answer(fuse_req_t req, struct door_thread *t)
+static int send_answer(fuse_req_t req, struct codec_thread *t)
 {
 	const nizwarf_session session = session_of(req->se);
 	/* (as much room as it needs, so that a slot needs no more) */
 	const size_t size = SMALL_ROOM + t->answer.text_len; /* bytes */
 	nizwarf_call *call = call_of(req);
 	struct iovec iov[1];
-	nizwarf_told told;
-	nizwarf_room room;
+	nizwarf_result result;
+	struct iovec room;
 	int32_t code;
 
 	/* (where the text lies there already, the room is as large: it doesn't move) */
 	if (!make_room(t, size))
 		return send_lost(req, -ENOMEM);
-	call->room = size;
-	room.at = t->room;
-	room.len = size;
-	code = nizwarf_reply(&t->slot, &session, call, &t->answer, &room, 1, &told);
-	if (code != NIZWARF_OK || !told.len)
+	call->reply_size = size;
+	room.iov_base = t->room;
+	room.iov_len = size;
+	code = nizwarf_encode(&t->slot, &session, call, &t->answer, &room, 1, &result);
+	if (code != NIZWARF_OK || !result.len)
 		return send_none(req, code);
-	if (call->call == NIZWARF_INIT)
-		__atomic_store_n(&door_of(req->se)->options, told.options, __ATOMIC_RELAXED);
-	return send_put(req, t->room, told.put, iov, 1);
+	if (call->opcode == NIZWARF_INIT)
+		__atomic_store_n(&codec_of(req->se)->options, result.options, __ATOMIC_RELAXED);
+	return send_put(req, t->room, result.written, iov, 1);
 }
 
 /* An error, or 0 where that is all there is to say. */
 static int send_plain(fuse_req_t req, int error)
 {
-	struct door_thread *t = door_thread();
+	struct codec_thread *t = codec_thread();
 
 	if (!t)
 		return send_header(req, -ENOMEM);
-	t->answer.error = error > NIZWARF_LAST_ERROR ? EIO : error;
+	t->answer.error = error > NIZWARF_MAX_ERRNO ? EIO : error;
 	return send_record(req, t);
 }
 
-/* The header of a reply with `len` bytes of data, which the door doesn't see: those of a READ, or records of a
+/* The header of a reply with `len` bytes of data, which the codec doesn't see: those of a READ, or records of a
  * directory. 0: there is no memory. A header that says an error has no data. Answered is the whole reply's length,
  * which the header says too. */
 static inline size_t put_data_header(fuse_req_t req, uint64_t len, uint8_t *header)
 {
-	struct door_thread *t = door_thread();
+	struct codec_thread *t = codec_thread();
 	nizwarf_call *call = call_of(req);
-	nizwarf_told told;
+	nizwarf_result result;
 
 	if (unlikely(!t))
 		return 0;
 	/* A listing is told as bytes: libfuse has them in records already. (nothing else looks at the call after
 	 * this) */
-	if (call->answer == NIZWARF_DIRECTORY) {
-		call->call = NIZWARF_READ;
-		call->answer = NIZWARF_DATA;
+	if (call->reply == NIZWARF_REPLY_DIRECTORY) {
+		call->opcode = NIZWARF_READ;
+		call->reply = NIZWARF_REPLY_DATA;
 		call->length = call->size;
 		call->has = 0;
 	}
 	t->answer.error = 0;
 	t->answer.count = len;
-	if (unlikely(put_answer(req, t, &told) != NIZWARF_OK))
+	if (unlikely(put_answer(req, t, &result) != NIZWARF_OK))
 		return 0;
-	nizwarf_copy_slot_at(&t->slot, 0, header, HEADER);
-	return told.len;
+	nizwarf_scratch_copy_at(&t->slot, 0, header, HEADER);
+	return result.len;
 }
 
 /* Puts pieces together, in front of which `iov` has a place for a header. 0: there is no memory. A record may be cut
  * between two pieces, as nobody forbids that. */
 static __attribute__((noinline)) int join_pieces(struct iovec *iov, int count, size_t len)
 {
-	struct door_thread *t = door_thread();
+	struct codec_thread *t = codec_thread();
 
 	if (!t || !make_room(t, len))
 		return 0;
@@ -709,7 +711,7 @@ static __attribute__((noinline)) int join_pieces(struct iovec *iov, int count, s
 static int send_data(fuse_req_t req, struct iovec *iov, int count)
 {
 	const nizwarf_call *call = call_of(req);
-	const int is_listing = call->answer == NIZWARF_DIRECTORY;
+	const int is_listing = call->reply == NIZWARF_REPLY_DIRECTORY;
 	_Alignas(struct fuse_out_header) uint8_t header[HEADER];
 	size_t len = length_of(iov + 1, count - 1), whole;
 
@@ -731,7 +733,7 @@ static int send_data(fuse_req_t req, struct iovec *iov, int count)
 	whole = put_data_header(req, len, header);
 	if (unlikely(!whole))
 		return send_header(req, -ENOMEM);
-	/* (the door says an error in place of data that it has no room for) */
+	/* (the codec says an error in place of data that it has no room for) */
 	return send_put(req, header, HEADER, iov, whole > HEADER ? count : 1);
 }
 
@@ -741,13 +743,13 @@ static __attribute__((noinline)) int send_wrong(fuse_req_t req)
 {
 	const nizwarf_call *call = call_of(req);
 
-	if (!call->call || call->call == NIZWARF_DESTROY)
+	if (!call->opcode || call->opcode == NIZWARF_DESTROY)
 		return send_header(req, 0);
-	if (call->answer == NIZWARF_QUIET) { /* a FORGET: nobody waits for a reply */
+	if (call->reply == NIZWARF_REPLY_NONE) { /* a FORGET: nobody waits for a reply */
 		fuse_free_req(req);
 		return -EINVAL;
 	}
-	fuse_log(FUSE_LOG_ERR, "fuse: what was answered is no answer to call %u\n", call->call);
+	fuse_log(FUSE_LOG_ERR, "fuse: what was answered is no answer to call %u\n", call->opcode);
 	send_plain(req, EIO);
 	return -EINVAL;
 }
@@ -756,8 +758,8 @@ static __attribute__((noinline)) int send_wrong(fuse_req_t req)
  * it gave) */
 static int send_told(fuse_req_t req, const struct iovec *iov, int count)
 {
-	struct door_thread *t = door_thread();
-	nizwarf_init_more more;
+	struct codec_thread *t = codec_thread();
+	nizwarf_init_params more;
 
 	if (!t)
 		return send_lost(req, -ENOMEM);
@@ -795,17 +797,17 @@ static int send_reply_iov(fuse_req_t req, int error, struct iovec *iov, int coun
 	const nizwarf_call *call = call_of(req);
 
 	/* (a DESTROY's is a header alone, as is that of a request which came to no file system) */
-	if (unlikely(call->answer == NIZWARF_QUIET)) {
-		if (!call->call || call->call == NIZWARF_DESTROY)
+	if (unlikely(call->reply == NIZWARF_REPLY_NONE)) {
+		if (!call->opcode || call->opcode == NIZWARF_DESTROY)
 			return send_header(req, error);
 		return send_wrong(req);
 	}
 	if (error)
 		return send_error(req, error);
-	if (call->answer == NIZWARF_DATA || call->answer == NIZWARF_DIRECTORY)
+	if (call->reply == NIZWARF_REPLY_DATA || call->reply == NIZWARF_REPLY_DIRECTORY)
 		return send_data(req, iov, count);
 	/* (with more pieces it is some record, which is told as wrong) */
-	if (call->answer == NIZWARF_DONE && count == 1)
+	if (call->reply == NIZWARF_REPLY_STATUS && count == 1)
 		return send_plain(req, 0);
 	/* (without the header's place) */
 	return send_told(req, iov + 1, count - 1);
@@ -813,11 +815,11 @@ static int send_reply_iov(fuse_req_t req, int error, struct iovec *iov, int coun
 
 /* This thread's memory, where a call is to be answered by a record of this kind. NULL: it is not so, or there is none;
  * send_other answers then. */
-static inline struct door_thread *begin_record(fuse_req_t req, uint32_t kind)
+static inline struct codec_thread *begin_record(fuse_req_t req, uint32_t kind)
 {
-	struct door_thread *t = door_thread();
+	struct codec_thread *t = codec_thread();
 
-	if (unlikely(!t || call_of(req)->answer != kind))
+	if (unlikely(!t || call_of(req)->reply != kind))
 		return NULL;
 	t->answer.error = 0;
 	return t;
@@ -825,27 +827,27 @@ static inline struct door_thread *begin_record(fuse_req_t req, uint32_t kind)
 
 static __attribute__((noinline)) int send_other(fuse_req_t req, uint32_t kind)
 {
-	return call_of(req)->answer == kind ? send_lost(req, -ENOMEM) : send_wrong(req);
+	return call_of(req)->reply == kind ? send_lost(req, -ENOMEM) : send_wrong(req);
 }
 
 /* The three that follow are libfuse's, in place of its own: the record goes right into the answer. */
 int fuse_reply_entry(fuse_req_t req, const struct fuse_entry_param *e)
 {
-	struct door_thread *t = begin_record(req, NIZWARF_ENTRY);
+	struct codec_thread *t = begin_record(req, NIZWARF_REPLY_ENTRY);
 
 	if (unlikely(!t))
-		return send_other(req, NIZWARF_ENTRY);
+		return send_other(req, NIZWARF_REPLY_ENTRY);
 	spell_entry(&t->answer.entry, e);
 	return send_record(req, t);
 }
 
 int fuse_reply_attr(fuse_req_t req, const struct stat *attr, double attr_timeout)
 {
-	struct door_thread *t = begin_record(req, NIZWARF_ATTR);
+	struct codec_thread *t = begin_record(req, NIZWARF_REPLY_ATTR);
 	nizwarf_entry *entry;
 
 	if (unlikely(!t))
-		return send_other(req, NIZWARF_ATTR);
+		return send_other(req, NIZWARF_REPLY_ATTR);
 	entry = &t->answer.entry;
 	entry->attr_nanoseconds = spell_time(attr_timeout, &entry->attr_seconds);
 	spell_attr(&entry->attr, attr);
@@ -854,8 +856,9 @@ int fuse_reply_attr(fuse_req_t req, const struct stat *attr, double attr_timeout
 
 int fuse_reply_write(fuse_req_t req, size_t count)
 {
-	const uint32_t kind = call_of(req)->call == NIZWARF_COPY_64 ? NIZWARF_OFFSET : NIZWARF_WRITTEN;
-	struct door_thread *t = begin_record(req, kind);
+	const uint32_t kind =
+		call_of(req)->opcode == NIZWARF_COPY_64 ? NIZWARF_REPLY_OFFSET : NIZWARF_REPLY_COUNT;
+	struct codec_thread *t = begin_record(req, kind);
 
 	if (unlikely(!t))
 		return send_other(req, kind);
@@ -889,7 +892,7 @@ int fuse_reply_data(fuse_req_t req, struct fuse_bufvec *bufv, enum fuse_buf_copy
 	size_t whole;
 	int res;
 
-	if (call_of(req)->answer != NIZWARF_DATA || !call_of(req)->call)
+	if (call_of(req)->reply != NIZWARF_REPLY_DATA || !call_of(req)->opcode)
 		return reply_flat(req, bufv);
 	/* (as many as are offered; a file may have fewer) */
 	whole = put_data_header(req, fuse_buf_size(bufv), header);

@@ -1,9 +1,10 @@
-/* Requests. The door reads each, and tells its call; what it refuses comes to no file system. */
+/* Requests. The codec reads each, and tells its call; what it refuses comes to no file system. */
 
 /* All rows are offered: a call that the file system doesn't have is answered ENOSYS, as libfuse does. */
-#define DOOR_OFFERS                                                                            \
-	(NIZWARF_OFFER_LOCKS | NIZWARF_OFFER_BMAP | NIZWARF_OFFER_IOCTL | NIZWARF_OFFER_POLL | \
-	 NIZWARF_OFFER_STATX | NIZWARF_OFFER_COPY_64 | NIZWARF_OFFER_TMPFILE | NIZWARF_OFFER_NOTIFY_REPLY)
+#define DOOR_OFFERS                                                                                    \
+	(NIZWARF_FEATURE_LOCKS | NIZWARF_FEATURE_BMAP | NIZWARF_FEATURE_IOCTL | NIZWARF_FEATURE_POLL | \
+	 NIZWARF_FEATURE_STATX | NIZWARF_FEATURE_COPY_64 | NIZWARF_FEATURE_TMPFILE |                   \
+	 NIZWARF_FEATURE_NOTIFY_REPLY)
 
 enum {
 	/* The longest reply of a request that needs no file system. */
@@ -17,14 +18,14 @@ enum {
 
 /* A request as it came, and what of it is in memory: all of it, but for data that stay in a pipe. `in` is aligned as
  * a header, and `len` may be less than one: nothing is read before that is looked at. */
-struct door_message {
+struct codec_message {
 	const struct fuse_buf *buf; /* libfuse's: memory, or a pipe; `size` bytes in all */
 	const char *in;
 	size_t len;
 };
 
-/* In place of data that are in a pipe: the door asks their length alone. */
-static const char door_absent[ABSENT];
+/* In place of data that are in a pipe: the codec asks their length alone. */
+static const char codec_absent[ABSENT];
 
 /* Linux asks no such call again, of most kinds, once it had ENOSYS. */
 #define ABSENT_OP(req) ((void)fuse_reply_err(req, ENOSYS))
@@ -34,10 +35,10 @@ static const char door_absent[ABSENT];
 
 /* Makes a call of the file system, by which the request ends, now or later, maybe on another thread: so after it
  * neither the request nor `c`, which is in it, is looked at. The message stays until it comes back. */
-typedef void door_call(fuse_req_t req, const nizwarf_call *c, const struct door_message *m);
+typedef void codec_call(fuse_req_t req, const nizwarf_call *c, const struct codec_message *m);
 
-/* Where a part of the message is that the door said is there. A name ends with a 0 there. */
-static const char *bytes_at(const struct door_message *m, nizwarf_range range)
+/* Where a part of the message is that the codec said is there. A name ends with a 0 there. */
+static const char *bytes_at(const struct codec_message *m, nizwarf_range range)
 {
 	return m->in + range.at;
 }
@@ -58,60 +59,66 @@ static void kill_privileges(struct fuse_file_info *file, const nizwarf_call *c)
 {
 #ifdef HAVE_KILL_SUIDGID
 	if (c->options >> BIT_KILLPRIV_V2 & 1)
-		file->kill_suidgid = (c->has & NIZWARF_KILL_PRIV) != 0;
+		file->kill_suidgid = (c->has & NIZWARF_KILL_SUIDGID) != 0;
 #else
 	(void)file, (void)c;
 #endif
 }
 
+/* ---- Calls of which the file system's function is handed what the codec tells, and no more ----------- */
+
+/* The call by the function of this name: what is done first, and its arguments after the node. */
+#define ON(name, first, ...)                                                                        \
+	static void on_##name(fuse_req_t req, const nizwarf_call *c, const struct codec_message *m) \
+	{                                                                                           \
+		first;                                                                              \
+		(void)m;                                                                            \
+		CALL(req, name, c->node, __VA_ARGS__);                                              \
+	}
+
+/* clang-format off */
+
+#define NOTHING (void)0
+#define ITS_FILE struct fuse_file_info file = file_of(c)
+/* (of what makes a file libfuse tells the umask by the context, and not as an argument) */
+#define ITS_UMASK req->ctx.umask = c->umask
+/* (NULL: the kernel asks by the node, and not by an open file) */
+#define FILE_IF_OPEN (c->has & NIZWARF_HAS_HANDLE ? &file : NULL)
+
+ON(lookup, NOTHING, bytes_at(m, c->name))
+ON(mknod, ITS_UMASK, bytes_at(m, c->name), c->mode, c->rdev)
+ON(mkdir, ITS_UMASK, bytes_at(m, c->name), c->mode)
+ON(unlink, NOTHING, bytes_at(m, c->name))
+ON(rmdir, NOTHING, bytes_at(m, c->name))
+ON(rename, NOTHING, bytes_at(m, c->name), c->other_node, bytes_at(m, c->other_name), c->flags)
+/* (the codec's `node` is the file that gets one more name) */
+ON(link, NOTHING, c->other_node, bytes_at(m, c->name))
+ON(getattr, ITS_FILE, FILE_IF_OPEN)
+ON(access, NOTHING, (int)nizwarf_access_mask(c))
+ON(setxattr, NOTHING, bytes_at(m, c->name), bytes_at(m, c->data), c->data.len, (int)c->flags)
+ON(getxattr, NOTHING, bytes_at(m, c->name), c->size)
+ON(listxattr, NOTHING, c->size)
+ON(removexattr, NOTHING, bytes_at(m, c->name))
+#ifdef HAVE_STATX_OP
+ON(statx, ITS_FILE, (int)c->flags, (int)nizwarf_statx_mask(c), FILE_IF_OPEN)
+#endif
+ON(fsync, ITS_FILE, (c->has & NIZWARF_FSYNC_FDATASYNC) != 0, &file)
+ON(fsyncdir, ITS_FILE, (c->has & NIZWARF_FSYNC_FDATASYNC) != 0, &file)
+ON(fallocate, ITS_FILE, (int)c->mode, (off_t)c->offset, (off_t)c->length, &file)
+ON(lseek, ITS_FILE, (off_t)c->offset, (int)nizwarf_lseek_whence(c), &file)
+ON(bmap, NOTHING, c->size, c->offset)
+
+/* clang-format on */
+
 /* ---- Names ------------------------------------------------------------------------------------------ */
 
-static void on_lookup(fuse_req_t req, const nizwarf_call *c, const struct door_message *m)
-{
-	CALL(req, lookup, c->node, bytes_at(m, c->name));
-}
-
-/* Of what makes a file libfuse tells the umask by the context, and not as an argument. */
-static void on_mknod(fuse_req_t req, const nizwarf_call *c, const struct door_message *m)
-{
-	req->ctx.umask = c->umask;
-	CALL(req, mknod, c->node, bytes_at(m, c->name), c->mode, c->rdev);
-}
-
-static void on_mkdir(fuse_req_t req, const nizwarf_call *c, const struct door_message *m)
-{
-	req->ctx.umask = c->umask;
-	CALL(req, mkdir, c->node, bytes_at(m, c->name), c->mode);
-}
-
-static void on_unlink(fuse_req_t req, const nizwarf_call *c, const struct door_message *m)
-{
-	CALL(req, unlink, c->node, bytes_at(m, c->name));
-}
-
-static void on_rmdir(fuse_req_t req, const nizwarf_call *c, const struct door_message *m)
-{
-	CALL(req, rmdir, c->node, bytes_at(m, c->name));
-}
-
-static void on_symlink(fuse_req_t req, const nizwarf_call *c, const struct door_message *m)
+static void on_symlink(fuse_req_t req, const nizwarf_call *c, const struct codec_message *m)
 {
 	CALL(req, symlink, bytes_at(m, nizwarf_symlink_text(c)), c->node, bytes_at(m, c->name));
 }
 
-static void on_rename(fuse_req_t req, const nizwarf_call *c, const struct door_message *m)
-{
-	CALL(req, rename, c->node, bytes_at(m, c->name), c->other_node, bytes_at(m, c->other_name), c->flags);
-}
-
-/* (the door's `node` is the file that gets one more name) */
-static void on_link(fuse_req_t req, const nizwarf_call *c, const struct door_message *m)
-{
-	CALL(req, link, c->node, c->other_node, bytes_at(m, c->name));
-}
-
 /* The flags of open(2) are the file's before it is open, as in libfuse: with them, and no handle yet. */
-static void on_create(fuse_req_t req, const nizwarf_call *c, const struct door_message *m)
+static void on_create(fuse_req_t req, const nizwarf_call *c, const struct codec_message *m)
 {
 	struct fuse_file_info file = file_of(c);
 
@@ -122,7 +129,7 @@ static void on_create(fuse_req_t req, const nizwarf_call *c, const struct door_m
 }
 
 #ifdef HAVE_TMPFILE
-static void on_tmpfile(fuse_req_t req, const nizwarf_call *c, const struct door_message *m)
+static void on_tmpfile(fuse_req_t req, const nizwarf_call *c, const struct codec_message *m)
 {
 	struct fuse_file_info file = file_of(c);
 
@@ -133,7 +140,7 @@ static void on_tmpfile(fuse_req_t req, const nizwarf_call *c, const struct door_
 }
 #endif
 
-static void on_readlink(fuse_req_t req, const nizwarf_call *c, const struct door_message *m)
+static void on_readlink(fuse_req_t req, const nizwarf_call *c, const struct codec_message *m)
 {
 	(void)m;
 	if (req->se->op.readlink) /* (CALL wants an argument more) */
@@ -145,7 +152,7 @@ static void on_readlink(fuse_req_t req, const nizwarf_call *c, const struct door
 /* ---- Lookups that are given back --------------------------------------------------------------------- */
 
 /* A FORGET has no reply, also where nobody serves it: fuse_reply_none() ends the request alone. */
-static void on_forget(fuse_req_t req, const nizwarf_call *c, const struct door_message *m)
+static void on_forget(fuse_req_t req, const nizwarf_call *c, const struct codec_message *m)
 {
 	(void)m;
 	if (req->se->op.forget)
@@ -156,7 +163,7 @@ static void on_forget(fuse_req_t req, const nizwarf_call *c, const struct door_m
 
 /* The file system ends a request with each call. So one stands for all of them: that wants no memory. With
  * forget_multi it gets all pairs at once, where they lie: both are laid out as libfuse's. */
-static void on_batch_forget(fuse_req_t req, const nizwarf_call *c, const struct door_message *m)
+static void on_batch_forget(fuse_req_t req, const nizwarf_call *c, const struct codec_message *m)
 {
 	const uint64_t pairs = nizwarf_batch_forget_pairs(c);
 	struct fuse_session *se = req->se;
@@ -188,16 +195,7 @@ static void on_batch_forget(fuse_req_t req, const nizwarf_call *c, const struct 
 
 /* ---- Attributes -------------------------------------------------------------------------------------- */
 
-/* (NULL: the kernel asks by the node, and not by an open file) */
-static void on_getattr(fuse_req_t req, const nizwarf_call *c, const struct door_message *m)
-{
-	struct fuse_file_info file = file_of(c);
-
-	(void)m;
-	CALL(req, getattr, c->node, c->has & NIZWARF_HAS_HANDLE ? &file : NULL);
-}
-
-static void on_setattr(fuse_req_t req, const nizwarf_call *c, const struct door_message *m)
+static void on_setattr(fuse_req_t req, const nizwarf_call *c, const struct codec_message *m)
 {
 	/* (those that libfuse has a name for: Linux's others, as of a handle, are told otherwise) */
 	const int fields = FUSE_SET_ATTR_MODE | FUSE_SET_ATTR_UID | FUSE_SET_ATTR_GID | FUSE_SET_ATTR_SIZE |
@@ -219,50 +217,11 @@ static void on_setattr(fuse_req_t req, const nizwarf_call *c, const struct door_
 	st.st_atim.tv_nsec = c->attr.atimensec;
 	st.st_mtim.tv_nsec = c->attr.mtimensec;
 	st.st_ctim.tv_nsec = c->attr.ctimensec;
-	CALL(req, setattr, c->node, &st, (int)nizwarf_setattr_fields(c) & fields,
-	     c->has & NIZWARF_HAS_HANDLE ? &file : NULL);
+	CALL(req, setattr, c->node, &st, (int)nizwarf_setattr_fields(c) & fields, FILE_IF_OPEN);
 }
-
-static void on_access(fuse_req_t req, const nizwarf_call *c, const struct door_message *m)
-{
-	(void)m;
-	CALL(req, access, c->node, (int)nizwarf_access_mask(c));
-}
-
-static void on_setxattr(fuse_req_t req, const nizwarf_call *c, const struct door_message *m)
-{
-	CALL(req, setxattr, c->node, bytes_at(m, c->name), bytes_at(m, c->data), c->data.len, (int)c->flags);
-}
-
-static void on_getxattr(fuse_req_t req, const nizwarf_call *c, const struct door_message *m)
-{
-	CALL(req, getxattr, c->node, bytes_at(m, c->name), c->size);
-}
-
-static void on_listxattr(fuse_req_t req, const nizwarf_call *c, const struct door_message *m)
-{
-	(void)m;
-	CALL(req, listxattr, c->node, c->size);
-}
-
-static void on_removexattr(fuse_req_t req, const nizwarf_call *c, const struct door_message *m)
-{
-	CALL(req, removexattr, c->node, bytes_at(m, c->name));
-}
-
-#ifdef HAVE_STATX_OP
-static void on_statx(fuse_req_t req, const nizwarf_call *c, const struct door_message *m)
-{
-	struct fuse_file_info file = file_of(c);
-
-	(void)m;
-	CALL(req, statx, c->node, (int)c->flags, (int)nizwarf_statx_mask(c),
-	     c->has & NIZWARF_HAS_HANDLE ? &file : NULL);
-}
-#endif
 
 /* df(1) works for a file system that doesn't say how large it is: so there is an answer, as libfuse's. */
-static void on_statfs(fuse_req_t req, const nizwarf_call *c, const struct door_message *m)
+static void on_statfs(fuse_req_t req, const nizwarf_call *c, const struct codec_message *m)
 {
 	const struct statvfs none = { .f_namemax = 255, .f_bsize = 512 }; /* what libfuse says */
 
@@ -283,7 +242,7 @@ static void open_by(fuse_req_t req, const nizwarf_call *c, uint64_t spared,
 	struct fuse_file_info file = file_of(c);
 
 	file.flags = (int)c->flags;
-	if (c->call == NIZWARF_OPEN)
+	if (c->opcode == NIZWARF_OPEN)
 		kill_privileges(&file, c);
 	if (function)
 		function(req, c->node, &file);
@@ -293,20 +252,20 @@ static void open_by(fuse_req_t req, const nizwarf_call *c, uint64_t spared,
 		fuse_reply_open(req, &file);
 }
 
-static void on_open(fuse_req_t req, const nizwarf_call *c, const struct door_message *m)
+static void on_open(fuse_req_t req, const nizwarf_call *c, const struct codec_message *m)
 {
 	(void)m;
 	open_by(req, c, FUSE_CAP_NO_OPEN_SUPPORT, req->se->op.open);
 }
 
-static void on_opendir(fuse_req_t req, const nizwarf_call *c, const struct door_message *m)
+static void on_opendir(fuse_req_t req, const nizwarf_call *c, const struct codec_message *m)
 {
 	(void)m;
 	open_by(req, c, FUSE_CAP_NO_OPENDIR_SUPPORT, req->se->op.opendir);
 }
 
 /* (the owner is of use to who locks files itself: the kernel names it if there are locks) */
-static void on_read(fuse_req_t req, const nizwarf_call *c, const struct door_message *m)
+static void on_read(fuse_req_t req, const nizwarf_call *c, const struct codec_message *m)
 {
 	struct fuse_file_info file = file_of(c);
 
@@ -318,7 +277,7 @@ static void on_read(fuse_req_t req, const nizwarf_call *c, const struct door_mes
 
 /* Data that are in a pipe stay there: the file system moves them on. The function reads as many bytes as it wants:
  * what it leaves in the pipe would be taken for the next message, and so is taken out after it. */
-static void write_buffers(fuse_req_t req, const nizwarf_call *c, const struct door_message *m,
+static void write_buffers(fuse_req_t req, const nizwarf_call *c, const struct codec_message *m,
 			  struct fuse_file_info *file)
 {
 	struct fuse_bufvec bufv = { .count = 1, .buf[0] = *m->buf };
@@ -338,14 +297,14 @@ static void write_buffers(fuse_req_t req, const nizwarf_call *c, const struct do
 }
 
 /* Data that are in memory, for a program with `write` or `write_buf`. */
-static void on_write(fuse_req_t req, const nizwarf_call *c, const struct door_message *m)
+static void on_write(fuse_req_t req, const nizwarf_call *c, const struct codec_message *m)
 {
 	struct fuse_file_info file = file_of(c);
 	struct fuse_session *se = req->se;
 
 	file.flags = (int)c->flags;
 	file.lock_owner = c->lock_owner;
-	file.writepage = (c->has & NIZWARF_DELAYED) != 0;
+	file.writepage = (c->has & NIZWARF_WRITE_CACHE) != 0;
 	kill_privileges(&file, c);
 	/* (libfuse would read after the message, where the kernel lies) */
 	if (c->data.len < c->size) {
@@ -359,7 +318,7 @@ static void on_write(fuse_req_t req, const nizwarf_call *c, const struct door_me
 	}
 }
 
-static void on_flush(fuse_req_t req, const nizwarf_call *c, const struct door_message *m)
+static void on_flush(fuse_req_t req, const nizwarf_call *c, const struct codec_message *m)
 {
 	struct fuse_file_info file = file_of(c);
 
@@ -377,45 +336,29 @@ static void release_by(fuse_req_t req, const nizwarf_call *c,
 
 	file.flags = (int)c->flags;
 	file.lock_owner = c->lock_owner;
-	file.flush = (c->has & NIZWARF_FLUSHES) != 0;
-	file.flock_release = (c->has & NIZWARF_FLOCK_RELEASE) != 0;
+	file.flush = (c->has & NIZWARF_RELEASE_FLUSH) != 0;
+	file.flock_release = (c->has & NIZWARF_RELEASE_FLOCK_UNLOCK) != 0;
 	if (function)
 		function(req, c->node, &file);
 	else
 		fuse_reply_err(req, 0);
 }
 
-static void on_release(fuse_req_t req, const nizwarf_call *c, const struct door_message *m)
+static void on_release(fuse_req_t req, const nizwarf_call *c, const struct codec_message *m)
 {
 	(void)m;
 	release_by(req, c, req->se->op.release);
 }
 
-static void on_releasedir(fuse_req_t req, const nizwarf_call *c, const struct door_message *m)
+static void on_releasedir(fuse_req_t req, const nizwarf_call *c, const struct codec_message *m)
 {
 	(void)m;
 	release_by(req, c, req->se->op.releasedir);
 }
 
-static void on_fsync(fuse_req_t req, const nizwarf_call *c, const struct door_message *m)
-{
-	struct fuse_file_info file = file_of(c);
-
-	(void)m;
-	CALL(req, fsync, c->node, (c->has & NIZWARF_DATASYNC) != 0, &file);
-}
-
-static void on_fsyncdir(fuse_req_t req, const nizwarf_call *c, const struct door_message *m)
-{
-	struct fuse_file_info file = file_of(c);
-
-	(void)m;
-	CALL(req, fsyncdir, c->node, (c->has & NIZWARF_DATASYNC) != 0, &file);
-}
-
-/* READDIR and READDIRPLUS are one call of the door; a program may have either function without the
+/* READDIR and READDIRPLUS are one call of the codec; a program may have either function without the
  * other. */
-static void on_readdir(fuse_req_t req, const nizwarf_call *c, const struct door_message *m)
+static void on_readdir(fuse_req_t req, const nizwarf_call *c, const struct codec_message *m)
 {
 	struct fuse_file_info file = file_of(c);
 
@@ -426,35 +369,19 @@ static void on_readdir(fuse_req_t req, const nizwarf_call *c, const struct door_
 		CALL(req, readdir, c->node, c->size, (off_t)c->offset, &file);
 }
 
-static void on_fallocate(fuse_req_t req, const nizwarf_call *c, const struct door_message *m)
-{
-	struct fuse_file_info file = file_of(c);
-
-	(void)m;
-	CALL(req, fallocate, c->node, (int)c->mode, (off_t)c->offset, (off_t)c->length, &file);
-}
-
-static void on_lseek(fuse_req_t req, const nizwarf_call *c, const struct door_message *m)
-{
-	struct fuse_file_info file = file_of(c);
-
-	(void)m;
-	CALL(req, lseek, c->node, (off_t)c->offset, (int)nizwarf_lseek_whence(c), &file);
-}
-
-static void on_copy(fuse_req_t req, const nizwarf_call *c, const struct door_message *m)
+static void on_copy(fuse_req_t req, const nizwarf_call *c, const struct codec_message *m)
 {
 	/* the most that COPY's reply can say, in whole pages */
-	const uint64_t most = c->call == NIZWARF_COPY ? 0xfffff000 : UINT64_MAX;
+	const uint64_t most = c->opcode == NIZWARF_COPY ? 0xfffff000 : UINT64_MAX;
 	struct fuse_file_info from = file_of(c), to = file_of(c);
 
 	(void)m;
 	/* (the call's own numbers tell both files apart) */
 	to.fh = c->other_handle;
 #ifdef HAVE_COPY_64
-	req->flags.is_copy_file_range_64 = c->call == NIZWARF_COPY_64;
+	req->flags.is_copy_file_range_64 = c->opcode == NIZWARF_COPY_64;
 #else
-	if (c->call == NIZWARF_COPY_64) {
+	if (c->opcode == NIZWARF_COPY_64) {
 		ABSENT_OP(req);
 		return;
 	}
@@ -468,7 +395,7 @@ static void on_copy(fuse_req_t req, const nizwarf_call *c, const struct door_mes
 /* libfuse's function makes a range of it, whose end 2^63 - 1 is the file's, and the kind as fcntl(2) has it. */
 static struct flock lock_of(const nizwarf_call *c)
 {
-	const nizwarf_lock asked = nizwarf_lock_asked(c);
+	const nizwarf_lock asked = nizwarf_lock_of(c);
 	struct fuse_file_lock record = {
 		.start = asked.start, .end = asked.end, .type = asked.type, .pid = asked.pid
 	};
@@ -478,7 +405,7 @@ static struct flock lock_of(const nizwarf_call *c)
 	return lock;
 }
 
-static void on_getlk(fuse_req_t req, const nizwarf_call *c, const struct door_message *m)
+static void on_getlk(fuse_req_t req, const nizwarf_call *c, const struct codec_message *m)
 {
 	struct fuse_file_info file = file_of(c);
 	struct flock lock = lock_of(c);
@@ -489,9 +416,9 @@ static void on_getlk(fuse_req_t req, const nizwarf_call *c, const struct door_me
 }
 
 /* SETLK and SETLKW, of fcntl(2) or of flock(2), which libfuse has in a function of its own. */
-static void on_setlk(fuse_req_t req, const nizwarf_call *c, const struct door_message *m)
+static void on_setlk(fuse_req_t req, const nizwarf_call *c, const struct codec_message *m)
 {
-	const int waits = c->call == NIZWARF_SETLKW;
+	const int waits = c->opcode == NIZWARF_SETLKW;
 	struct fuse_file_info file = file_of(c);
 	struct flock lock = lock_of(c);
 	int op = 0;
@@ -499,7 +426,7 @@ static void on_setlk(fuse_req_t req, const nizwarf_call *c, const struct door_me
 	(void)m;
 	file.lock_owner = c->lock_owner;
 	/* (flock(2) locks go by the same opcode) */
-	if (!(c->has & NIZWARF_HAS_FLOCK)) {
+	if (!(c->has & NIZWARF_LK_FLOCK)) {
 		CALL(req, setlk, c->node, &file, &lock, waits);
 		return;
 	}
@@ -512,14 +439,8 @@ static void on_setlk(fuse_req_t req, const nizwarf_call *c, const struct door_me
 	CALL(req, flock, c->node, &file, waits ? op : op | LOCK_NB);
 }
 
-static void on_bmap(fuse_req_t req, const nizwarf_call *c, const struct door_message *m)
-{
-	(void)m;
-	CALL(req, bmap, c->node, c->size, c->offset);
-}
-
 /* Of a directory it's ENOTTY, unless the file system asked for those: so says libfuse. */
-static void on_ioctl(fuse_req_t req, const nizwarf_call *c, const struct door_message *m)
+static void on_ioctl(fuse_req_t req, const nizwarf_call *c, const struct codec_message *m)
 {
 	const char *in = c->data.len ? bytes_at(m, c->data) : NULL;
 	struct fuse_file_info file = file_of(c);
@@ -532,7 +453,7 @@ static void on_ioctl(fuse_req_t req, const nizwarf_call *c, const struct door_me
 }
 
 /* The handle is the file system's from then on, which ends it by fuse_pollhandle_destroy. */
-static void on_poll(fuse_req_t req, const nizwarf_call *c, const struct door_message *m)
+static void on_poll(fuse_req_t req, const nizwarf_call *c, const struct codec_message *m)
 {
 	struct fuse_file_info file = file_of(c);
 	struct fuse_pollhandle *handle = NULL;
@@ -553,7 +474,7 @@ static void on_poll(fuse_req_t req, const nizwarf_call *c, const struct door_mes
 
 /* What a notice asked for has come. It may be in a pipe but for its front. The memory of whoever asked is theirs, or
  * libfuse's, and ends with its function. */
-static void on_notify_reply(fuse_req_t req, const nizwarf_call *c, const struct door_message *m)
+static void on_notify_reply(fuse_req_t req, const nizwarf_call *c, const struct codec_message *m)
 {
 	const struct fuse_in_header *in = (const void *)m->in;
 	/* (`c` isn't looked at after the function: it ends the request) */
@@ -589,9 +510,9 @@ static void on_notify_reply(fuse_req_t req, const nizwarf_call *c, const struct 
 
 /* ---- A session ---------------------------------------------------------------------------------------- */
 
-/* What is agreed on is libfuse's to say: its own function reads the record, which the door found whole. (a shorter
+/* What is agreed on is libfuse's to say: its own function reads the record, which the codec found whole. (a shorter
  * record of an older client is filled up by zeros, as libfuse reads all of it) */
-static void on_init(fuse_req_t req, const nizwarf_call *c, const struct door_message *m)
+static void on_init(fuse_req_t req, const nizwarf_call *c, const struct codec_message *m)
 {
 	_Alignas(uint64_t) char record[NIZWARF_INIT_FRONT] = { 0 };
 	const size_t len = m->len - sizeof(struct fuse_in_header);
@@ -599,21 +520,21 @@ static void on_init(fuse_req_t req, const nizwarf_call *c, const struct door_mes
 	memcpy(record, m->in + sizeof(struct fuse_in_header), len < sizeof(record) ? len : sizeof(record));
 	/* (a field that an INIT has no other use for, by which nizwarf.h keeps what is offered beside virtiofsd's
 	 * options) */
-	call_of(req)->other_offset = nizwarf_init_offered_at(
+	call_of(req)->other_offset = nizwarf_init_capable_at(
 		(const uint8_t *)m->in, m->len < NIZWARF_INIT_FRONT ? m->len : NIZWARF_INIT_FRONT);
-	/* (and the one by which it knows that tell_init's text is meant: nizwarf_init_takes_more) */
+	/* (and the one by which it knows that tell_init's text is meant: nizwarf_init_takes_params) */
 	call_of(req)->more = 1;
 	do_init(req, c->node, record);
 }
 
-static void on_destroy(fuse_req_t req, const nizwarf_call *c, const struct door_message *m)
+static void on_destroy(fuse_req_t req, const nizwarf_call *c, const struct codec_message *m)
 {
 	/* (as at the begin: a client may send an INIT again, which isn't the kernel) */
-	__atomic_store_n(&door_of(req->se)->options, 0, __ATOMIC_RELAXED);
+	__atomic_store_n(&codec_of(req->se)->options, 0, __ATOMIC_RELAXED);
 	do_destroy(req, c->node, m->in + m->len);
 }
 
-static door_call *const door_calls[] = {
+static codec_call *const codec_calls[] = {
 	[NIZWARF_LOOKUP] = on_lookup,
 	[NIZWARF_FORGET] = on_forget,
 	[NIZWARF_GETATTR] = on_getattr,
@@ -679,17 +600,17 @@ static int take_bytes(struct fuse_bufvec *pipe, char *to, size_t len)
 
 /* Waits for memory where a file system is never told again what it is told now: of lookups that are given back.
  * 0: it's not so, or was waited for too long. */
-static int wait_for_memory(const struct door_message *m, int *tries)
+static int wait_for_memory(const struct codec_message *m, int *tries)
 {
 	const struct fuse_in_header *in = (const void *)m->in;
 
 	return in && m->len >= sizeof(*in) &&
-	       (in->opcode == FUSE_FORGET || in->opcode == FUSE_BATCH_FORGET) && door_pause(tries);
+	       (in->opcode == FUSE_FORGET || in->opcode == FUSE_BATCH_FORGET) && codec_pause(tries);
 }
 
-/* Whether what follows the front of a message may stay in a pipe. The front is in memory. Of the data the door is
+/* Whether what follows the front of a message may stay in a pipe. The front is in memory. Of the data the codec is
  * told the length alone, by segments that have no bytes of it, and it reads none of them. */
-static int may_stay(const struct fuse_session *se, const struct door_message *m)
+static int may_stay(const struct fuse_session *se, const struct codec_message *m)
 {
 	const struct fuse_in_header *in = (const void *)m->in;
 
@@ -698,10 +619,10 @@ static int may_stay(const struct fuse_session *se, const struct door_message *m)
 	return (in->opcode == FUSE_WRITE && se->op.write_buf) || in->opcode == FUSE_NOTIFY_REPLY;
 }
 
-/* Takes of a message that is in a pipe into memory what the door is to read: its front, or all, which is to be freed.
+/* Takes of a message that is in a pipe into memory what the codec is to read: its front, or all, which is to be freed.
  * 0: the message is lost. The front is `WRITE_FRONT` bytes, or all if that is less: it has the header, the record of
  * a WRITE and that of a NOTIFY_REPLY. */
-static int take_message(struct fuse_session *se, struct door_message *m, char *front, char **whole)
+static int take_message(struct fuse_session *se, struct codec_message *m, char *front, char **whole)
 {
 	struct fuse_bufvec pipe = { .count = 1, .buf[0] = *m->buf };
 	const size_t size = m->buf->size, len = size < WRITE_FRONT ? size : WRITE_FRONT;
@@ -729,8 +650,8 @@ static int take_message(struct fuse_session *se, struct door_message *m, char *f
 }
 
 /* Whether a request is of a row that is offered: of no other one the offers are looked at. What is shorter than a
- * header is taken for one, since the door refuses it anyhow. An opcode of 64 and more is none. */
-static inline int is_row(const struct door_message *m)
+ * header is taken for one, since the codec refuses it anyhow. An opcode of 64 and more is none. */
+static inline int is_row(const struct codec_message *m)
 {
 	const uint64_t rows = UINT64_C(1) << FUSE_GETLK | UINT64_C(1) << FUSE_SETLK |
 			      UINT64_C(1) << FUSE_SETLKW | UINT64_C(1) << FUSE_BMAP |
@@ -742,30 +663,28 @@ static inline int is_row(const struct door_message *m)
 	return m->len < sizeof(*in) || (in->opcode < 64 && rows >> in->opcode & 1);
 }
 
-/* Asks the door for the call of a message that is of a row, or has data in a pipe. */
-static __attribute__((noinline)) int32_t ask_further(struct door_thread *t, const nizwarf_session *session,
-						     size_t room, const struct door_message *m,
-						     nizwarf_call *call, nizwarf_told *told)
+/* Asks the codec for the call of a message that is of a row, or has data in a pipe. */
+static __attribute__((noinline)) int32_t ask_further(struct codec_thread *t, const nizwarf_session *session,
+						     size_t room, const struct codec_message *m,
+						     nizwarf_call *call, nizwarf_result *result)
 {
-	nizwarf_segment segments[MOST_SEGMENTS];
+	struct iovec segments[MOST_SEGMENTS];
 	size_t left = m->buf->size - m->len, count = 1;
 
-	segments[0].at = m->in;
-	segments[0].len = m->len;
-	for (; left; left -= segments[count++].len) {
+	segments[0].iov_base = m->in;
+	segments[0].iov_len = m->len;
+	for (; left; left -= segments[count++].iov_len) {
 		/* (the same bytes again and again: nobody reads them) */
-		segments[count].at = door_absent;
-		segments[count].len = left < ABSENT ? left : ABSENT;
+		segments[count].iov_base = codec_absent;
+		segments[count].iov_len = left < ABSENT ? left : ABSENT;
 	}
-	if (is_row(m))
-		return nizwarf_ask_offered_at(&t->slot, session, DOOR_OFFERS, segments, count, room, call,
-					      told);
-	return nizwarf_ask_at(&t->slot, session, segments, count, room, call, told);
+	return nizwarf_decode_at(&t->slot, session, is_row(m) ? DOOR_OFFERS : 0, segments, count, room, call,
+				 result);
 }
 
-/* How much room the door is said to have. A slot keeps as much memory for each answer, but of a READ a header's: so it's
+/* How much room the codec is said to have. A slot keeps as much memory for each answer, but of a READ a header's: so it's
  * no more than a reply without a text takes, or than a directory is asked for. In bytes. */
-static inline size_t room_for(const nizwarf_session *session, const struct door_message *m)
+static inline size_t room_for(const nizwarf_session *session, const struct codec_message *m)
 {
 	/* (no overflow: 32 bits and 4096) */
 	const size_t most = session->max_buffer + FUSE_BUFFER_HEADER_SIZE;
@@ -784,30 +703,30 @@ static inline size_t room_for(const nizwarf_session *session, const struct door_
 	return size < most - SMALL_ROOM ? SMALL_ROOM + size : most;
 }
 
-/* Asks the door for the call of a message. NIZWARF_ASKED: the call is set. NIZWARF_OK: it needs no file system, and
+/* Asks the codec for the call of a message. NIZWARF_CALL: the call is set. NIZWARF_OK: it needs no file system, and
  * its reply is in the thread's slot. Others: it's refused. */
-static inline int32_t ask(struct door_thread *t, struct fuse_session *se, const struct door_message *m,
-			  nizwarf_call *call, nizwarf_told *told)
+static inline int32_t ask(struct codec_thread *t, struct fuse_session *se, const struct codec_message *m,
+			  nizwarf_call *call, nizwarf_result *result)
 {
 	const nizwarf_session session = session_of(se);
-	const nizwarf_segment segment = { m->in, m->len };
+	const struct iovec segment = { m->in, m->len };
 	const size_t room = room_for(&session, m);
 
-	begin_told(told, session.options);
+	begin_told(result, session.options);
 	if (unlikely(m->len != m->buf->size || is_row(m)))
-		return ask_further(t, &session, room, m, call, told);
-	return nizwarf_ask_at(&t->slot, &session, &segment, 1, room, call, told);
+		return ask_further(t, &session, room, m, call, result);
+	return nizwarf_decode_at(&t->slot, &session, 0, &segment, 1, room, call, result);
 }
 
 /* No call is told: the reply is a header alone. */
 static void forget_call(fuse_req_t req)
 {
-	call_of(req)->call = 0;
-	call_of(req)->answer = NIZWARF_QUIET;
+	call_of(req)->opcode = 0;
+	call_of(req)->reply = NIZWARF_REPLY_NONE;
 }
 
 /* Ends a request that comes to no file system by an error, if a client waits for a reply. `error` is above 0. */
-static void refuse(fuse_req_t req, const struct door_message *m, int error)
+static void refuse(fuse_req_t req, const struct codec_message *m, int error)
 {
 	const struct fuse_in_header *in = (const void *)m->in;
 
@@ -822,8 +741,8 @@ static void refuse(fuse_req_t req, const struct door_message *m, int error)
 }
 
 /* Ends a request that needs no file system. */
-static void finish(fuse_req_t req, struct door_thread *t, const struct door_message *m,
-		   const nizwarf_told *told)
+static void finish(fuse_req_t req, struct codec_thread *t, const struct codec_message *m,
+		   const nizwarf_result *result)
 {
 	const struct fuse_in_header *in = (const void *)m->in;
 	_Alignas(struct fuse_out_header) uint8_t reply[LONGEST_FINISHED];
@@ -833,20 +752,21 @@ static void finish(fuse_req_t req, struct door_thread *t, const struct door_mess
 	/* (its header alone says which it is: no call was told) */
 	req->unique = m->len < sizeof(*in) ? 0 : in->unique;
 	/* (the request of an INTERRUPT is not ended here: it's kept, or has ended) */
-	if (told->interrupts && has_interrupts(req->se)) {
-		interrupt(req, told->interrupts);
+	if (result->interrupts && has_interrupts(req->se)) {
+		interrupt(req, result->interrupts);
 		return;
 	}
-	if (told->interrupts) {
+	if (result->interrupts) {
 		/* (it says that there are none, and Linux sends no more) */
 		fuse_reply_err(req, ENOSYS);
 		return;
 	}
 	/* (an opcode that is none is answered ENOSYS, for instance) */
-	if (told->len) {
+	if (result->len) {
 		iov[0].iov_base = reply;
-		iov[0].iov_len = nizwarf_copy_slot_at(&t->slot, 0, reply,
-						      told->put < sizeof(reply) ? told->put : sizeof(reply));
+		iov[0].iov_len = nizwarf_scratch_copy_at(&t->slot, 0, reply,
+							 result->written < sizeof(reply) ? result->written :
+											   sizeof(reply));
 		fuse_send_msg(req->se, req->ch, iov, 1 SEND_OF(req));
 	}
 	fuse_reply_none(req);
@@ -858,7 +778,7 @@ static inline int is_denied(const struct fuse_session *se, const nizwarf_call *c
 {
 	if (likely(!se->deny_others) || c->uid == se->owner || c->uid == 0)
 		return 0;
-	switch (c->call) {
+	switch (c->opcode) {
 	case NIZWARF_INIT:
 	case NIZWARF_READ:
 	case NIZWARF_WRITE:
@@ -877,13 +797,13 @@ static inline int is_denied(const struct fuse_session *se, const nizwarf_call *c
 /* Whether a request comes before an INIT was answered, or is a second one. Both are EIO. */
 static inline int is_early(const struct fuse_session *se, const nizwarf_call *c)
 {
-	return se->got_init == (c->call == NIZWARF_INIT);
+	return se->got_init == (c->opcode == NIZWARF_INIT);
 }
 
 /* Makes the call that a request asks for. */
-static inline void make_call(struct fuse_session *se, fuse_req_t req, const struct door_message *m)
+static inline void make_call(struct fuse_session *se, fuse_req_t req, const struct codec_message *m)
 {
-	const size_t known = sizeof(door_calls) / sizeof(*door_calls);
+	const size_t known = sizeof(codec_calls) / sizeof(*codec_calls);
 	const nizwarf_call *c = call_of(req);
 
 	req->unique = c->unique;
@@ -896,21 +816,21 @@ static inline void make_call(struct fuse_session *se, fuse_req_t req, const stru
 	if (unlikely(count_kept(se)))
 		end_oldest(se);
 	/* (a row may lack what an older libfuse has no function for) */
-	if (likely(c->call < known && door_calls[c->call]))
-		door_calls[c->call](req, c, m);
+	if (likely(c->opcode < known && codec_calls[c->opcode]))
+		codec_calls[c->opcode](req, c, m);
 	else
 		ABSENT_OP(req);
 }
 
 /* What is left of a message in a pipe would be taken for the next one. */
-static void clear_pipe(struct fuse_session *se, const struct door_message *m)
+static void clear_pipe(struct fuse_session *se, const struct codec_message *m)
 {
 	if (m->buf->flags & FUSE_BUF_IS_FD)
 		fuse_ll_clear_pipe(se);
 }
 
 /* (with -d; it prints no data) */
-static __attribute__((noinline)) void print_request(const struct door_message *m, uint64_t options)
+static __attribute__((noinline)) void print_request(const struct codec_message *m, uint64_t options)
 {
 	char line[512];
 
@@ -920,15 +840,15 @@ static __attribute__((noinline)) void print_request(const struct door_message *m
 
 /* Ends a request that comes to no file system: `code` is what the ask came to. Asked, and yet refused, is what comes
  * too early (EIO), or from whom it may not (EACCES). */
-static __attribute__((noinline)) void end_asked(fuse_req_t req, struct door_thread *t,
-						const struct door_message *m, const nizwarf_told *told,
+static __attribute__((noinline)) void end_asked(fuse_req_t req, struct codec_thread *t,
+						const struct codec_message *m, const nizwarf_result *result,
 						int32_t code)
 {
 	struct fuse_session *se = req->se;
 
 	if (code == NIZWARF_OK)
-		finish(req, t, m, told);
-	else if (code != NIZWARF_ASKED)
+		finish(req, t, m, result);
+	else if (code != NIZWARF_CALL)
 		refuse(req, m, code == NIZWARF_OUT_OF_MEMORY ? ENOMEM : EIO);
 	else if (is_early(se, call_of(req)))
 		refuse(req, m, EIO);
@@ -938,39 +858,39 @@ static __attribute__((noinline)) void end_asked(fuse_req_t req, struct door_thre
 }
 
 /* Asks again while there is no memory, if that is waited for. */
-static __attribute__((noinline)) int32_t ask_again(struct door_thread *t, struct fuse_session *se,
-						   const struct door_message *m, nizwarf_call *call,
-						   nizwarf_told *told)
+static __attribute__((noinline)) int32_t ask_again(struct codec_thread *t, struct fuse_session *se,
+						   const struct codec_message *m, nizwarf_call *call,
+						   nizwarf_result *result)
 {
 	int32_t code = NIZWARF_OUT_OF_MEMORY;
 	int tries = 0;
 
 	while (code == NIZWARF_OUT_OF_MEMORY && wait_for_memory(m, &tries))
-		code = ask(t, se, m, call, told);
+		code = ask(t, se, m, call, result);
 	return code;
 }
 
 /* The request isn't looked at after it. */
-static inline void serve(struct fuse_session *se, fuse_req_t req, struct door_thread *t,
-			 const struct door_message *m)
+static inline void serve(struct fuse_session *se, fuse_req_t req, struct codec_thread *t,
+			 const struct codec_message *m)
 {
 	nizwarf_call *call = call_of(req);
-	nizwarf_told told;
+	nizwarf_result result;
 	int32_t code;
 
-	code = ask(t, se, m, call, &told);
+	code = ask(t, se, m, call, &result);
 	if (unlikely(code == NIZWARF_OUT_OF_MEMORY))
-		code = ask_again(t, se, m, call, &told);
+		code = ask_again(t, se, m, call, &result);
 	if (unlikely(se->debug))
 		print_request(m, session_of(se).options);
-	if (unlikely(code != NIZWARF_ASKED || is_early(se, call) || is_denied(se, call)))
-		end_asked(req, t, m, &told, code);
+	if (unlikely(code != NIZWARF_CALL || is_early(se, call) || is_denied(se, call)))
+		end_asked(req, t, m, &result, code);
 	else
 		make_call(se, req, m);
 }
 
-/* A character device begins by a request that the door doesn't know. */
-static void begin_device(fuse_req_t req, const struct door_message *m)
+/* A character device begins by a request that the codec doesn't know. */
+static void begin_device(fuse_req_t req, const struct codec_message *m)
 {
 	const struct fuse_in_header *in = (const void *)m->in;
 	struct fuse_session *se = req->se;
@@ -987,7 +907,7 @@ static void begin_device(fuse_req_t req, const struct door_message *m)
 
 /* Says that there is no memory for a request. There is no request to end, and so libfuse's own way to reply isn't
  * open. */
-static void send_no_memory(struct fuse_session *se, struct fuse_chan *ch, const struct door_message *m)
+static void send_no_memory(struct fuse_session *se, struct fuse_chan *ch, const struct codec_message *m)
 {
 	const struct fuse_in_header *in = (const void *)m->in;
 	struct fuse_out_header out = { .error = -ENOMEM };
@@ -1003,13 +923,13 @@ static void send_no_memory(struct fuse_session *se, struct fuse_chan *ch, const 
 /* Waits for the memory of a request. NULL: it isn't waited for, or for too long, and the client is told. `taken` is 0
  * where the message itself found no memory. */
 static __attribute__((noinline)) struct fuse_req *wait_for_req(struct fuse_session *se, struct fuse_chan *ch,
-							       const struct door_message *m, int taken)
+							       const struct codec_message *m, int taken)
 {
 	struct fuse_req *req = NULL;
 	int tries = 0;
 
 	while (taken && !req && wait_for_memory(m, &tries))
-		req = door_take_req(se);
+		req = codec_take_req(se);
 	if (!req) {
 		send_no_memory(se, ch, m);
 		clear_pipe(se, m);
@@ -1021,7 +941,7 @@ static __attribute__((noinline)) struct fuse_req *wait_for_req(struct fuse_sessi
  * as it comes back: a call that is answered later has copied what it wants. */
 void PROCESS_BUF(struct fuse_session *se, const struct fuse_buf *buf, struct fuse_chan *ch)
 {
-	struct door_message m = { .buf = buf, .in = buf->mem, .len = buf->size };
+	struct codec_message m = { .buf = buf, .in = buf->mem, .len = buf->size };
 	const int in_pipe = buf->flags & FUSE_BUF_IS_FD;
 	_Alignas(struct fuse_in_header) char front[WRITE_FRONT]; /* only for one in a pipe */
 	struct fuse_req *req = NULL;
@@ -1031,7 +951,7 @@ void PROCESS_BUF(struct fuse_session *se, const struct fuse_buf *buf, struct fus
 	if (unlikely(in_pipe))
 		taken = take_message(se, &m, front, &whole);
 	if (likely(taken))
-		req = door_take_req(se);
+		req = codec_take_req(se);
 	if (unlikely(!req))
 		req = wait_for_req(se, ch, &m, taken);
 	if (likely(req)) {
@@ -1042,7 +962,7 @@ void PROCESS_BUF(struct fuse_session *se, const struct fuse_buf *buf, struct fus
 		if (unlikely(se->cuse_data) && !se->got_init)
 			begin_device(req, &m);
 		else
-			serve(se, req, door_mine, &m);
+			serve(se, req, codec_mine, &m);
 	}
 	if (unlikely(in_pipe))
 		free(whole);

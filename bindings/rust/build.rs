@@ -7,7 +7,7 @@ use std::process::{exit, Command};
 
 const NAME: &str = "nizwarf";
 /// From this version on, and before the next major one, the library has what this crate uses.
-const VERSIONS: [&str; 2] = [">= 0.3", "< 1"];
+const VERSIONS: [&str; 2] = [">= 0.4", "< 1"];
 
 fn main() {
     for name in
@@ -27,7 +27,7 @@ fn main() {
         eprintln!("libnizwarf was not found: {fault}.");
         eprintln!("Install its development package, so that `pkg-config {NAME}` finds it, or set");
         eprintln!("NIZWARF_LIB_DIR to a folder with libnizwarf.a, with libnizwarf.so, or with");
-        eprintln!("libnizwarf_door.a and liblibc_c.a.");
+        eprintln!("libnizwarf_codec.a and liblibc_c.a.");
         exit(1);
     }
 }
@@ -37,8 +37,8 @@ fn link_folder(folder: &str) -> Result<(), String> {
     let has = |file: &str| Path::new(folder).join(file).exists();
     let libraries: &[&str] = if has("libnizwarf.a") {
         &["static=nizwarf"]
-    } else if has("libnizwarf_door.a") && has("liblibc_c.a") {
-        &["static=nizwarf_door", "static=libc_c"]
+    } else if has("libnizwarf_codec.a") && has("liblibc_c.a") {
+        &["static=nizwarf_codec", "static=libc_c"]
     } else if has("libnizwarf.so") && !is_static() {
         &["dylib=nizwarf"]
     } else {
@@ -51,7 +51,7 @@ fn link_folder(folder: &str) -> Result<(), String> {
     for library in libraries {
         println!("cargo:rustc-link-lib={library}");
     }
-    for file in ["libnizwarf.a", "libnizwarf_door.a", "liblibc_c.a", "libnizwarf.so"] {
+    for file in ["libnizwarf.a", "libnizwarf_codec.a", "liblibc_c.a", "libnizwarf.so"] {
         let path = folder.join(file);
         if path.exists() {
             println!("cargo:rerun-if-changed={}", path.display());
@@ -69,12 +69,12 @@ fn is_static() -> bool {
 fn link_installed() -> Result<(), String> {
     let versions = VERSIONS.map(|version| format!("{NAME} {version}"));
     if is_static() {
-        ask_pkg_config(&["--exists"], &versions)?;
-        let folder = ask_pkg_config(&["--variable=libdir"], &[NAME.into()])?;
+        run_pkg_config(&["--exists"], &versions)?;
+        let folder = run_pkg_config(&["--variable=libdir"], &[NAME.into()])?;
         return link_folder(folder.trim());
     }
     let mut named = false;
-    for word in ask_pkg_config(&["--libs"], &versions)?.split_whitespace() {
+    for word in run_pkg_config(&["--libs"], &versions)?.split_whitespace() {
         if let Some(folder) = word.strip_prefix("-L") {
             println!("cargo:rustc-link-search=native={folder}");
         } else if let Some(library) = word.strip_prefix("-l") {
@@ -89,8 +89,8 @@ fn link_installed() -> Result<(), String> {
     }
 }
 
-/// Returns what pkg-config says.
-fn ask_pkg_config(words: &[&str], of: &[String]) -> Result<String, String> {
+/// Returns the output of pkg-config.
+fn run_pkg_config(words: &[&str], of: &[String]) -> Result<String, String> {
     let program = env::var("PKG_CONFIG").unwrap_or_else(|_| "pkg-config".into());
     let why = |why: &dyn std::fmt::Display| format!("NIZWARF_LIB_DIR is not set, and `{program}`: {why}");
     let said = Command::new(&program).args(words).arg("--print-errors").args(of).output();

@@ -1,17 +1,18 @@
 #!/usr/bin/env bash
-# Builds the library nizwarf_door, and checks the crate `nizwarf` with it: the crate builds without a network and
+# Builds the library nizwarf_codec, and checks the crate `nizwarf` with it: the crate builds without a network and
 # without other crates, there are no warnings, and its tests, doctests and examples pass.
 #
 # Usage: bindings/rust/check.sh [--msrv] [--fuser]
 # As root, if there is /dev/fuse, the examples are also mounted, and tests/mount*.rs mount; if there is
-# fusermount3, another user mounts, too. The tests also run under the address, leak and thread sanitizers of the compiler, and under valgrind, if they are installed. With --msrv they also run
-# with the rustc of Debian 12, the oldest supported one. It is downloaded and unpacked into out/rust/debian,
-# which takes 400 MB, and not installed. With --fuser fuser is downloaded as fuser/run.sh says. If it is there, its
-# examples are mounted over it and over this crate, and compared.
+# fusermount3, another user mounts, too. The tests also run under the address, leak and thread sanitizers of the
+# compiler, and under valgrind, if they are installed. With --msrv they also run with the rustc of Debian 12, the oldest
+# supported one. It is downloaded and unpacked into out/rust/debian, which takes 400 MB, and not installed. With --fuser
+# fuser is downloaded as fuser/run.sh says. If it is there, its examples are mounted over it and over this crate, and
+# compared.
 #
 # If the proved library is built and no source is newer, it is used. Otherwise tools/lib/unproved.sh builds the
 # library without a proof, in a minute. The output is in out/rust.
-# It needs cargo, a C compiler, and the Rattle toolchain for the library; it uses rustfmt and clippy if they
+# It needs cargo, a C compiler, python3, and the Rattle toolchain for the library; it uses rustfmt and clippy if they
 # are installed. If NIZWARF_LIB_DIR is set, the library is that in this folder: see build.rs.
 # Status 0: all checks passed; 1: one failed; 2: it could not start.
 
@@ -34,8 +35,9 @@ done
 steps=$((17 + has_msrv))
 need cargo "Install it: apt-get install cargo."
 need cc "Install a C compiler: apt-get install gcc libc6-dev."
+need python3 "Install it: apt-get install python3."
 if [ -z "${NIZWARF_LIB_DIR:-}" ]; then
-    find_library nizwarf_door
+    find_library nizwarf_codec
     NIZWARF_LIB_DIR=$here/out/rust/lib
     mkdir -p "$NIZWARF_LIB_DIR"
     cp "${library[@]}" "$NIZWARF_LIB_DIR"
@@ -54,7 +56,7 @@ passed() {
 
 # The tests that do not replace malloc.
 tests=(--lib --test answers --test calls --test fuser --test hostile --test later --test mount
-    --test mount_further --test refusals --test serve --test server --test threads)
+    --test mount_optional --test refusals --test serve --test server --test threads)
 
 # Mounts hello.rs as another user.
 mount_as_other() {
@@ -67,10 +69,10 @@ mount_as_other() {
         setpriv --reuid=65534 --regid=65534 --clear-groups
 }
 
-# Packs the crate, builds what is packed, and does what `cargo publish` does before it sends that, with an empty index.
+# Packs the crate, builds the package, and does the steps of `cargo publish` before the upload, with an empty index.
 make_package() {
-    # (a target of its own: cargo would take what is built of the package for what is built of the sources, and not see when
-    # those change)
+    # (a target of its own, because cargo would take the build of the package for that of the sources, and would not
+    # notice when those change)
     local index=$folder/index packed=$built/packed
     cargo package --quiet --offline --allow-dirty --target-dir "$packed" || return
     [ "$(cargo package --quiet --offline --allow-dirty --list | grep -c '^LICENSE-')" = 2 ] || return
@@ -86,10 +88,10 @@ build_static() {
     local installed=$folder/installed version
     version=$(sed -n 's/^version = "\(.*\)"$/\1/p' "$here/bindings/rust/Cargo.toml")
     mkdir -p "$installed"
-    cc -shared -o "$installed/libnizwarf.so" -Wl,--whole-archive "$NIZWARF_LIB_DIR/libnizwarf_door.a" \
+    cc -shared -o "$installed/libnizwarf.so" -Wl,--whole-archive "$NIZWARF_LIB_DIR/libnizwarf_codec.a" \
         -Wl,--no-whole-archive "$NIZWARF_LIB_DIR/liblibc_c.a" || return
     # (a script for ar: both libraries in one)
-    printf 'create %s\naddlib %s\naddlib %s\nsave\n' "$installed/libnizwarf.a" "$NIZWARF_LIB_DIR"/lib{nizwarf_door,libc_c}.a |
+    printf 'create %s\naddlib %s\naddlib %s\nsave\n' "$installed/libnizwarf.a" "$NIZWARF_LIB_DIR"/lib{nizwarf_codec,libc_c}.a |
         ar -M || return
     sed -e "s,^prefix=.*,prefix=$installed,; s,^libdir=.*,libdir=$installed," -e "s/@VERSION@/$version/" \
         "$here/packaging/nizwarf.pc.in" > "$installed/nizwarf.pc"
@@ -147,7 +149,7 @@ step "Tests and doctests" cargo test --offline
 echo "$(passed) tests and doctests passed."
 cargo build --quiet --offline --examples
 
-# tests/c/hello.c passes a descriptor by its number.
+# hello_client.py passes a descriptor by its number.
 # shellcheck disable=SC2016
 printf '#!/usr/bin/env bash\nexec "%s" - <&"$2"\n' "$built/debug/examples/hello" > "$folder/hello"
 chmod +x "$folder/hello"

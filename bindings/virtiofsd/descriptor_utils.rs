@@ -1,7 +1,7 @@
 // SPDX-License-Identifier: Apache-2.0 AND BSD-3-Clause
 // Written anew: of virtiofsd it has the names of types and methods alone. See NOTICE.md.
 
-//! Guest memory: the pieces that a request, or the room for its reply, consists of.
+//! Guest memory: the pieces that a request, or its reply buffer, consists of.
 //!
 //! It takes the place of virtiofsd's `src/descriptor_utils.rs`. There a reader and a writer move forward in a
 //! queue of pieces. Here they are lists that do not change: the library reads a request at once, and writes a
@@ -56,11 +56,11 @@ impl<'m> Reader<'m> {
     }
 }
 
-/// The descriptors of a chain that the device writes: the room for a reply.
+/// The descriptors of a chain that the device writes: a reply buffer.
 pub struct Writer<'m>(List<'m>);
 
 impl<'m> Writer<'m> {
-    /// Finds the pieces of a room.
+    /// Finds the pieces of a reply buffer.
     ///
     /// # Errors
     /// None: it would end the worker of the queue.
@@ -113,7 +113,7 @@ impl<'m> List<'m> {
     }
 }
 
-/// The pieces of guest memory that a request or the room for a reply consists of.
+/// The pieces of guest memory that a request or a reply buffer consists of.
 #[derive(Clone, Copy)]
 pub(crate) struct Pieces<'l> {
     all: &'l [Piece<'l>],
@@ -126,9 +126,9 @@ impl Pieces<'_> {
         self.len
     }
 
-    /// Copies the first bytes, as many as there are and as there is room for, and returns how many.
+    /// Copies the first bytes, as many as both have, and returns how many.
     pub(crate) fn copy_to(self, mut to: &mut [u8]) -> usize {
-        let most = to.len();
+        let max = to.len();
         for piece in self.all {
             if to.is_empty() {
                 break;
@@ -136,7 +136,7 @@ impl Pieces<'_> {
             let copied = piece.copy_to(to);
             to = &mut to[copied..];
         }
-        most - to.len()
+        max - to.len()
     }
 
     /// Copies bytes to the start of the pieces, and returns whether all were copied.
@@ -190,7 +190,7 @@ fn cut<'l>(pieces: &[Piece<'l>], mut skip: usize, len: usize) -> io::Result<Vec<
     Ok(cut)
 }
 
-/// The data of a WRITE, or the room for those of a READ.
+/// The data of a WRITE, or the buffer for those of a READ.
 pub(crate) struct Data<'l> {
     pieces: Pieces<'l>,
     /// Where they begin, in bytes.

@@ -18,7 +18,7 @@ use crate::filesystem::{
 };
 use crate::fuse::{Attr, FsOptions, OpenOptions, SetattrIn, SetattrValid, SetxattrFlags};
 use crate::soft_idmap::Id;
-use nizwarf::{make_call, Call, Item, Refusal, Reply, Session, Slot, Told};
+use nizwarf::{make_call, Call, DirItem, Encoded, Refusal, Reply, Scratch, Session};
 use std::cell::RefCell;
 use std::ffi::CStr;
 use std::fs::File;
@@ -41,18 +41,18 @@ const MKDIR: u32 = 9;
 const SETXATTR: u32 = 21;
 const CREATE: u32 = 35;
 /// The kinds of extensions up to this one are numbers of security contexts.
-const MOST_CONTEXTS: u32 = 31;
+const MAX_CONTEXTS: u32 = 31;
 
-/// What a thread keeps from one request to the next.
+/// The buffers that a thread keeps from one request to the next.
 struct Local {
-    slot: Slot,
+    scratch: Scratch,
     /// The longest request, once there was one.
     request: Vec<u8>,
 }
 
 thread_local! {
     static LOCAL: RefCell<Local> =
-        const { RefCell::new(Local { slot: Slot::new(), request: Vec::new() }) };
+        const { RefCell::new(Local { scratch: Scratch::new(), request: Vec::new() }) };
     static LISTING: RefCell<Listing> = const { RefCell::new(Listing::new()) };
 }
 
@@ -82,11 +82,11 @@ impl<F: FileSystem + Sync> Server<F> {
         w: Writer,
         _vu_req: Option<&mut T>,
     ) -> crate::Result<usize> {
-        let (Some(request), Some(room)) = (r.pieces(), w.pieces()) else {
+        let (Some(request), Some(buffers)) = (r.pieces(), w.pieces()) else {
             debug!("A descriptor is not in the memory of the guest");
             return Ok(0);
         };
-        Ok(LOCAL.with(|local| self.serve(&mut local.borrow_mut(), request, room)))
+        Ok(LOCAL.with(|local| self.serve(&mut local.borrow_mut(), request, buffers)))
     }
 
     /// Ends the session, as a reset of the device does.
@@ -101,8 +101,8 @@ impl<F: FileSystem + Sync> Server<F> {
         self.migrated.store(false, Ordering::Relaxed);
     }
 
-    fn serve(&self, local: &mut Local, request: Pieces, room: Pieces) -> usize {
-        let Local { slot, request: buffer } = local;
+    fn serve(&self, local: &mut Local, request: Pieces, buffers: Pieces) -> usize {
+        let Local { scratch, request: buffer } = local;
         let mut session = Session::default();
         if buffer.is_empty() {
             *buffer = vec![0; session.longest_message()];
@@ -116,16 +116,17 @@ impl<F: FileSystem + Sync> Server<F> {
         session.set_options(options);
         debug!("{}", nizwarf::print_request(bytes, session.options()));
         let bytes = [IoSlice::new(bytes)];
-        let told = slot.ask_with(&session, &bytes, room.len(), |slot, caller, call| {
-            let asker = Asker::new(&self.fs, caller);
-            let told = asker.make(slot, call, request, room);
-            if let Some(options) = told.options {
-                self.agree(options.bits());
-            }
-            (told.outcome, told.give_back(|node| asker.give_back(node)))
-        });
-        let (outcome, reply) = told.unwrap_or_else(|done| (done.outcome, done.reply));
-        put_reply(outcome, reply, room)
+        let encoded =
+            scratch.decode_with(&session, &bytes, buffers.len(), |scratch, caller, call| {
+                let calls = Calls::new(&self.fs, caller);
+                let encoded = calls.make(scratch, call, request, buffers);
+                if let Some(options) = encoded.options {
+                    self.agree(options.bits());
+                }
+                (encoded.outcome, encoded.forget_lost(|node| calls.forget_lost(node)))
+            });
+        let (outcome, reply) = encoded.unwrap_or_else(|done| (done.outcome, done.reply));
+        put_reply(outcome, reply, buffers)
     }
 }
 
@@ -159,7 +160,7 @@ fn options_of(request: &[u8]) -> nizwarf::FsOptions {
     options
 }
 
-/// Whether a security context is among the extensions after that many names, which begin there.
+/// Whether a security context is among the extensions after `names` names, which begin at `begin`.
 fn has_context(request: &[u8], begin: usize, names: usize) -> bool {
     let mut rest = request.get(begin..).unwrap_or_default();
     for _ in 0..names {
@@ -168,7 +169,7 @@ fn has_context(request: &[u8], begin: usize, names: usize) -> bool {
     }
     while let Some(header) = rest.first_chunk::<8>() {
         let (size, kind) = (number_of(&header[..4]), number_of(&header[4..]));
-        if kind <= MOST_CONTEXTS {
+        if kind <= MAX_CONTEXTS {
             return true;
         }
         rest = rest.get(size.max(8) as usize..).unwrap_or_default();
@@ -180,15 +181,15 @@ fn number_of(bytes: &[u8]) -> u32 {
     bytes.iter().rev().fold(0, |number, &byte| (number << 8) | u32::from(byte))
 }
 
-/// Puts a reply into the room, and returns the length with which the request is completed.
-fn put_reply(outcome: Result<(), Refusal>, mut reply: Reply, room: Pieces) -> usize {
+/// Puts a reply into the reply buffer, and returns the length with which the request is completed.
+fn put_reply(outcome: Result<(), Refusal>, mut reply: Reply, buffers: Pieces) -> usize {
     if let Err(refusal) = outcome {
         debug!("The request is refused: {refusal}");
         return 0;
     }
     let len = reply.len();
     debug!("The reply has {len} bytes");
-    if room.copy_from(reply.bytes()) {
+    if buffers.copy_from(reply.bytes()) {
         len
     } else {
         0
@@ -196,19 +197,19 @@ fn put_reply(outcome: Result<(), Refusal>, mut reply: Reply, room: Pieces) -> us
 }
 
 /// Makes calls for a caller.
-struct Asker<'f, F> {
+struct Calls<'f, F> {
     fs: &'f F,
     context: Context,
 }
 
-impl<'f, F: FileSystem> Asker<'f, F> {
+impl<'f, F: FileSystem> Calls<'f, F> {
     fn new(fs: &'f F, caller: nizwarf::Context) -> Self {
         let context = Context { uid: caller.uid.into(), gid: caller.gid.into(), pid: caller.pid };
-        Asker { fs, context }
+        Calls { fs, context }
     }
 
     /// Makes a call of the file system, and returns its result in the types of the crate.
-    fn ask<T: Answer>(&self, call: impl FnOnce(&F) -> io::Result<T>) -> io::Result<T::Of> {
+    fn call<T: Answer>(&self, call: impl FnOnce(&F) -> io::Result<T>) -> io::Result<T::Of> {
         self.run(call).map(Answer::of)
     }
 
@@ -219,48 +220,54 @@ impl<'f, F: FileSystem> Asker<'f, F> {
     }
 
     /// Makes a call that has no answer.
-    fn tell(&self, call: impl FnOnce(&F)) {
+    fn quietly(&self, call: impl FnOnce(&F)) {
         let _ = self.run(|fs| {
             call(fs);
             Ok(())
         });
     }
 
-    fn give_back(&self, node: u64) {
-        self.tell(|fs| fs.forget(self.context, node.into(), 1));
+    fn forget_lost(&self, node: u64) {
+        self.quietly(|fs| fs.forget(self.context, node.into(), 1));
     }
 
-    /// Makes the call that a request asks for, and answers it.
-    fn make<'s>(&self, slot: &'s mut Slot, call: Call, request: Pieces, room: Pieces) -> Told<'s> {
-        make_call!(call, slot, self, self.context, call => match call {
-            Call::Read { .. } | Call::Write { .. } => self.transfer(slot, call, request, room),
-            Call::Open { .. } | Call::Create { .. } | Call::Opendir { .. } => self.open(slot, call),
-            Call::Readdir { .. } | Call::Readlink { .. } => self.read_node(slot, call),
+    /// Makes the call of a request, and answers it.
+    fn make<'s>(
+        &self,
+        scratch: &'s mut Scratch,
+        call: Call,
+        request: Pieces,
+        buffers: Pieces,
+    ) -> Encoded<'s> {
+        make_call!(call, scratch, self, self.context, call => match call {
+            Call::Read { .. } | Call::Write { .. } => self.transfer(scratch, call, request, buffers),
+            Call::Open { .. } | Call::Create { .. } | Call::Opendir { .. } => self.open(scratch, call),
+            Call::Readdir { .. } | Call::Readlink { .. } => self.read_node(scratch, call),
             Call::Init { .. }
             | Call::Destroy { .. }
             | Call::Forget { .. }
-            | Call::BatchForget { .. } => self.keep_session(slot, call),
-            _ => refuse(slot, call),
+            | Call::BatchForget { .. } => self.keep_session(scratch, call),
+            _ => refuse(scratch, call),
         })
     }
 
     /// READ and WRITE.
     fn transfer<'s>(
         &self,
-        slot: &'s mut Slot,
+        scratch: &'s mut Scratch,
         call: Call,
         request: Pieces,
-        room: Pieces,
-    ) -> Told<'s> {
+        buffers: Pieces,
+    ) -> Encoded<'s> {
         let ctx = self.context;
         match call {
             Call::Read { node, handle, size, offset, lock_owner, flags, to } => {
-                let data = Data::new(room, REPLY_HEADER, to.most());
-                let result = self.ask(|fs| {
+                let data = Data::new(buffers, REPLY_HEADER, to.max());
+                let result = self.call(|fs| {
                     let (node, handle) = (node.into(), handle.into());
                     fs.read(ctx, node, handle, data, size, offset, lock_owner, flags)
                 });
-                to.answer(slot, result)
+                to.answer(scratch, result)
             }
             Call::Write {
                 node,
@@ -274,56 +281,57 @@ impl<'f, F: FileSystem> Asker<'f, F> {
                 to,
                 ..
             } => {
-                let most = request.len().saturating_sub(WRITE_HEAD).min(size as usize);
-                let data = Data::new(request, WRITE_HEAD, most);
-                let result = self.ask(|fs| {
+                let max = request.len().saturating_sub(WRITE_HEAD).min(size as usize);
+                let data = Data::new(request, WRITE_HEAD, max);
+                let result = self.call(|fs| {
                     let (node, handle) = (node.into(), handle.into());
                     fs.write(
                         ctx, node, handle, data, size, offset, lock_owner, delayed, kill_priv,
                         flags,
                     )
                 });
-                to.answer(slot, result)
+                to.answer(scratch, result)
             }
-            other => refuse(slot, other),
+            other => refuse(scratch, other),
         }
     }
 
     /// The calls that open a file or a directory. If the reply does not fit, the handle is released: the client does
-    /// not know it, and nobody can be told of an error.
-    fn open<'s>(&self, slot: &'s mut Slot, call: Call) -> Told<'s> {
+    /// not know it, and an error cannot be reported to anybody.
+    fn open<'s>(&self, scratch: &'s mut Scratch, call: Call) -> Encoded<'s> {
         let ctx = self.context;
-        let (told, flags) = match call {
+        let (encoded, flags) = match call {
             Call::Open { node, kill_priv, flags, to } => {
-                let result = self.ask(|fs| fs.open(ctx, node.into(), kill_priv, flags));
-                (to.answer(slot, result), flags)
+                let result = self.call(|fs| fs.open(ctx, node.into(), kill_priv, flags));
+                (to.answer(scratch, result), flags)
             }
             Call::Create { parent, name, mode, kill_priv, flags, umask, extensions, to } => {
                 let extensions = extensions.into();
-                let result = self.ask(|fs| {
+                let result = self.call(|fs| {
                     let parent = parent.into();
                     fs.create(ctx, parent, &name, mode, kill_priv, flags, umask, extensions)
                 });
-                (to.answer(slot, result), flags)
+                (to.answer(scratch, result), flags)
             }
             Call::Opendir { node, flags, to } => {
-                let told = to.answer(slot, self.ask(|fs| fs.opendir(ctx, node.into(), flags)));
-                if let Some((node, handle)) = told.lost_handle() {
-                    let _ = self.ask(|fs| fs.releasedir(ctx, node.into(), flags, handle.into()));
+                let encoded =
+                    to.answer(scratch, self.call(|fs| fs.opendir(ctx, node.into(), flags)));
+                if let Some((node, handle)) = encoded.lost_handle() {
+                    let _ = self.call(|fs| fs.releasedir(ctx, node.into(), flags, handle.into()));
                 }
-                return told;
+                return encoded;
             }
-            other => return refuse(slot, other),
+            other => return refuse(scratch, other),
         };
-        if let Some((node, handle)) = told.lost_handle() {
+        if let Some((node, handle)) = encoded.lost_handle() {
             let (node, handle) = (node.into(), handle.into());
-            let _ = self.ask(|fs| fs.release(ctx, node, flags, handle, false, false, None));
+            let _ = self.call(|fs| fs.release(ctx, node, flags, handle, false, false, None));
         }
-        told
+        encoded
     }
 
     /// READDIR and READLINK.
-    fn read_node<'s>(&self, slot: &'s mut Slot, call: Call) -> Told<'s> {
+    fn read_node<'s>(&self, scratch: &'s mut Scratch, call: Call) -> Encoded<'s> {
         let ctx = self.context;
         match call {
             Call::Readdir { node, handle, size, offset, plus, to } => {
@@ -332,43 +340,47 @@ impl<'f, F: FileSystem> Asker<'f, F> {
                 match result {
                     Ok(items) => LISTING.with(move |listing| {
                         let mut listing = listing.borrow_mut();
-                        let most = (size as usize).min(to.room().saturating_sub(REPLY_HEADER));
-                        self.list(&mut listing, items, most, plus);
+                        let max = (size as usize).min(to.reply_size().saturating_sub(REPLY_HEADER));
+                        self.list(&mut listing, items, max, plus);
                         let items = if plus {
                             self.look_up(listing.items(), node)
                         } else {
                             listing.items().collect()
                         };
-                        to.answer(slot, Ok(&items))
+                        to.answer(scratch, Ok(&items))
                     }),
-                    Err(error) => to.fail(slot, &error),
+                    Err(error) => to.fail(scratch, &error),
                 }
             }
             Call::Readlink { node, to } => match self.run(|fs| fs.readlink(ctx, node.into())) {
-                Ok(text) => to.answer(slot, Ok(&text)),
-                Err(error) => to.fail(slot, &error),
+                Ok(text) => to.answer(scratch, Ok(&text)),
+                Err(error) => to.fail(scratch, &error),
             },
-            other => refuse(slot, other),
+            other => refuse(scratch, other),
         }
     }
 
     /// Lists items up to the first that does not fit. With `plus`, the first of all is listed even if it does not
     /// fit, since the error of its lookup is the reply.
-    fn list(&self, listing: &mut Listing, mut items: F::DirIter, most: usize, plus: bool) {
+    fn list(&self, listing: &mut Listing, mut items: F::DirIter, max: usize, plus: bool) {
         listing.clear();
         // If the iterator panics, the listing ends.
-        self.tell(|_| while listing.add(&mut items, most, plus) {});
+        self.quietly(|_| while listing.add(&mut items, max, plus) {});
     }
 
     /// Looks items up, but for `.` and `..`, up to the first whose lookup fails.
-    fn look_up<'l>(&self, listed: impl Iterator<Item = Item<'l>>, node: u64) -> Vec<Item<'l>> {
+    fn look_up<'l>(
+        &self,
+        listed: impl Iterator<Item = DirItem<'l>>,
+        node: u64,
+    ) -> Vec<DirItem<'l>> {
         let mut items = Vec::with_capacity(listed.size_hint().0);
         for item in listed {
             if item.is_dot() {
                 items.push(item);
                 continue;
             }
-            let result = self.ask(|fs| fs.lookup(self.context, node.into(), item.name()));
+            let result = self.call(|fs| fs.lookup(self.context, node.into(), item.name()));
             let failed = result.is_err();
             items.push(item.looked_up(&result));
             if failed {
@@ -379,33 +391,33 @@ impl<'f, F: FileSystem> Asker<'f, F> {
     }
 
     /// The calls about the session.
-    fn keep_session<'s>(&self, slot: &'s mut Slot, call: Call) -> Told<'s> {
+    fn keep_session<'s>(&self, scratch: &'s mut Scratch, call: Call) -> Encoded<'s> {
         match call {
             Call::Init { capable, to, .. } => {
                 let capable = FsOptions::from_bits_truncate(capable.bits());
-                to.answer(slot, self.ask(|fs| fs.init(capable)))
+                to.answer(scratch, self.call(|fs| fs.init(capable)))
             }
             Call::Destroy { to } => {
-                self.tell(FileSystem::destroy);
-                to.done(slot)
+                self.quietly(FileSystem::destroy);
+                to.done(scratch)
             }
             Call::Forget { node, count, to } => {
-                self.tell(|fs| fs.forget(self.context, node.into(), count));
-                to.done(slot)
+                self.quietly(|fs| fs.forget(self.context, node.into(), count));
+                to.done(scratch)
             }
             Call::BatchForget { forgets, to } => {
                 let forgets = forgets.map(|(node, count)| (node.into(), count)).collect();
-                self.tell(|fs| fs.batch_forget(self.context, forgets));
-                to.done(slot)
+                self.quietly(|fs| fs.batch_forget(self.context, forgets));
+                to.done(scratch)
             }
-            other => refuse(slot, other),
+            other => refuse(scratch, other),
         }
     }
 }
 
 /// Refuses a call that no file system of virtiofsd 1.13.2 has.
-fn refuse<'s>(slot: &'s mut Slot, call: Call) -> Told<'s> {
-    call.fail(slot, &io::Error::from_raw_os_error(libc::ENOSYS))
+fn refuse<'s>(scratch: &'s mut Scratch, call: Call) -> Encoded<'s> {
+    call.fail(scratch, &io::Error::from_raw_os_error(libc::ENOSYS))
 }
 
 /// Items of a directory, whose names are copied: the iterator lends them for a step.
@@ -438,12 +450,12 @@ impl Listing {
 
     /// Adds the next item, if there is one and it fits, or if it is the first with `plus`. Returns whether it
     /// was added.
-    fn add(&mut self, items: &mut impl DirectoryIterator, most: usize, plus: bool) -> bool {
+    fn add(&mut self, items: &mut impl DirectoryIterator, max: usize, plus: bool) -> bool {
         let Some(item) = items.next() else {
             return false;
         };
-        let len = Item::new(item.ino, item.offset, item.type_, item.name).record_len(plus);
-        if len > most.saturating_sub(self.len) && !(plus && self.records.is_empty()) {
+        let len = DirItem::new(item.ino, item.offset, item.type_, item.name).record_len(plus);
+        if len > max.saturating_sub(self.len) && !(plus && self.records.is_empty()) {
             return false;
         }
         self.len += len;
@@ -457,10 +469,10 @@ impl Listing {
         true
     }
 
-    fn items(&self) -> impl Iterator<Item = Item<'_>> {
+    fn items(&self) -> impl Iterator<Item = DirItem<'_>> {
         self.records.iter().map(move |record| {
             let name = name_in(&self.names, record.at);
-            Item::new(record.ino, record.offset, record.kind, name)
+            DirItem::new(record.ino, record.offset, record.kind, name)
         })
     }
 }

@@ -10,7 +10,7 @@
  * answered here, and never reaches the program:
  *
  * - what is refused, with EIO;
- * - what needs no file system, as an opcode that is none, with the reply of nizwarf_ask;
+ * - what needs no file system, as an opcode that is none, with the reply of nizwarf_decode;
  * - a request that says another length than it has, and a WRITE of more bytes than it has, with EIO,
  *   though nizwarf_check takes both;
  * - what nobody looks at, as SETUPMAPPING, with ENOSYS.
@@ -38,9 +38,9 @@ enum { PAYLOAD = 1 << 20, LONGEST = PAYLOAD + 4096 };
 
 /* The rows that the program may have besides: it answers ENOSYS itself to others. */
 enum {
-	OFFERS = NIZWARF_OFFER_LOCKS | NIZWARF_OFFER_BMAP | NIZWARF_OFFER_IOCTL | NIZWARF_OFFER_POLL |
-		 NIZWARF_OFFER_STATX | NIZWARF_OFFER_COPY_64 | NIZWARF_OFFER_TMPFILE |
-		 NIZWARF_OFFER_NOTIFY_REPLY
+	OFFERS = NIZWARF_FEATURE_LOCKS | NIZWARF_FEATURE_BMAP | NIZWARF_FEATURE_IOCTL | NIZWARF_FEATURE_POLL |
+		 NIZWARF_FEATURE_STATX | NIZWARF_FEATURE_COPY_64 | NIZWARF_FEATURE_TMPFILE |
+		 NIZWARF_FEATURE_NOTIFY_REPLY
 };
 
 /* What becomes of a request: it is handed on, or answered here with some bytes, or none. */
@@ -53,7 +53,7 @@ static const char usage[] = "Usage: check DESCRIPTOR PROGRAM [WORD..]\n"
  * looked at. */
 static unsigned char request[LONGEST], room[LONGEST];
 static nizwarf_session session = { 0, 4096, PAYLOAD }; /* options, the size of a page, the payload */
-static nizwarf_slot slot = NIZWARF_NONE;
+static nizwarf_scratch scratch = NIZWARF_SCRATCH_INIT;
 /* The sockets to the peer, and to the program. */
 static int peer, behind;
 /* Before an INIT; the program has one; it agreed; a DESTROY was handed on. */
@@ -83,14 +83,14 @@ static ssize_t refuse(const struct fuse_in_header *asked, int error)
  * or 0. */
 static ssize_t finish(size_t size)
 {
-	const nizwarf_segment piece = { request, size };
-	const nizwarf_room whole = { room, LONGEST };
+	const struct iovec piece = { request, size };
+	const struct iovec whole = { room, LONGEST };
 	nizwarf_call call;
-	nizwarf_told told;
+	nizwarf_result result;
 
 	/* (it makes no call, so there is none to answer: that was looked at before) */
-	nizwarf_ask(&slot, &session, &piece, 1, &whole, 1, &call, &told);
-	return (ssize_t)told.len;
+	nizwarf_decode(&scratch, &session, 0, &piece, 1, &whole, 1, &call, &result);
+	return (ssize_t)result.len;
 }
 
 /* Judges a request of that many bytes. HAND_ON, or how many bytes of reply there are to it in the room, or 0. It may
@@ -109,23 +109,23 @@ static ssize_t judge(size_t size)
 	if (asked.len != size || size > sizeof(request))
 		return refuse(&asked, EIO);
 	/* (`interrupts` is what an INTERRUPT wants to end, which the program has to see) */
-	code = nizwarf_check_offered(&session, OFFERS, request, size, LONGEST, &call, &interrupts);
+	code = nizwarf_check(&session, OFFERS, request, size, LONGEST, &call, &interrupts);
 	if (code == NIZWARF_OK)
 		return interrupts && state == AGREED ? HAND_ON : finish(size);
-	if (code != NIZWARF_ASKED)
+	if (code != NIZWARF_CALL)
 		return refuse(&asked, EIO);
 	/* (no program that has the offered rows serves these) */
-	if (call.answer == NIZWARF_FAULT || call.answer == NIZWARF_FAULT_OR_SILENCE)
+	if (call.reply == NIZWARF_REPLY_ERROR || call.reply == NIZWARF_REPLY_ERROR_OR_NONE)
 		return refuse(&asked, ENOSYS);
 	/* (libfuse would give its file system what is after the message) */
-	if (call.call == NIZWARF_WRITE && call.size > call.data.len)
+	if (call.opcode == NIZWARF_WRITE && call.size > call.data.len)
 		return refuse(&asked, EIO);
 	/* (libfuse judges by its own `got_init`, which is set before the reply) */
-	if (state != (call.call == NIZWARF_INIT ? NEW : AGREED))
+	if (state != (call.opcode == NIZWARF_INIT ? NEW : AGREED))
 		return refuse(&asked, EIO);
-	if (call.call == NIZWARF_INIT)
+	if (call.opcode == NIZWARF_INIT)
 		state = ASKED;
-	if (call.call == NIZWARF_DESTROY)
+	if (call.opcode == NIZWARF_DESTROY)
 		state = OVER;
 	return HAND_ON;
 }
@@ -321,7 +321,7 @@ int main(int count, char **words)
 	/* (by which a program that serves still learns to end) */
 	close(behind);
 	close(peer);
-	nizwarf_end_slot(&slot);
+	nizwarf_scratch_free(&scratch);
 	while (wait(NULL) < 0 && errno == EINTR)
 		;
 	return !gone;

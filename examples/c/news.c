@@ -47,8 +47,8 @@ static _Atomic uint64_t polled; /* the number that wakes who polls, or 0 */
 static pthread_mutex_t lock = PTHREAD_MUTEX_INITIALIZER;
 static transport_notices notices = TRANSPORT_NO_NOTICES;
 static nizwarf_session session = { 0, 4096, TRANSPORT_PAYLOAD };
-/* A slot has one caller at a time: each worker has its own, and the last one is used under the lock. */
-static nizwarf_slot slots[TRANSPORT_MOST_WORKERS], late_slot = NIZWARF_NONE;
+/* Scratch memory has one caller at a time: each worker has its own, and the last one is used under the lock. */
+static nizwarf_scratch slots[TRANSPORT_MOST_WORKERS], late_slot = NIZWARF_SCRATCH_INIT;
 
 /* ---- locks */
 
@@ -148,7 +148,7 @@ static const nizwarf_ops ops;
 static void finish(struct waiting *w, int error)
 {
 	transport_later *later = w->later;
-	nizwarf_answer answer = NIZWARF_NO_ANSWER;
+	nizwarf_answer answer = NIZWARF_ANSWER_INIT;
 	uint8_t room[LONGEST];
 	size_t len;
 	int32_t code;
@@ -165,8 +165,8 @@ static void wake(void)
 {
 	for (int i = 0; i < MOST_LOCKS; i++) {
 		const nizwarf_call *call = &waiting[i].call;
-		const nizwarf_lock wanted = nizwarf_lock_asked(call);
-		const int flock = (call->has & NIZWARF_HAS_FLOCK) != 0;
+		const nizwarf_lock wanted = nizwarf_lock_of(call);
+		const int flock = (call->has & NIZWARF_LK_FLOCK) != 0;
 
 		if (waiting[i].later && !in_the_way(call->lock_owner, &wanted, flock))
 			/* (the next one is held against it: so of two that want the same one goes on waiting) */
@@ -282,7 +282,7 @@ static int news_flush(const nizwarf_req *req, uint64_t ino, const nizwarf_file_i
 static int news_release(const nizwarf_req *req, uint64_t ino, const nizwarf_file_info *fi)
 {
 	(void)ino;
-	return req->call->has & NIZWARF_FLOCK_RELEASE ? unlock(fi->lock_owner, 1) : 0;
+	return req->call->has & NIZWARF_RELEASE_FLOCK_UNLOCK ? unlock(fi->lock_owner, 1) : 0;
 }
 
 /* ---- the file */
@@ -646,28 +646,28 @@ static int begin(void *user, unsigned worker)
 static void end(void *user, unsigned worker)
 {
 	(void)user;
-	nizwarf_end_slot(&slots[worker]);
+	nizwarf_scratch_free(&slots[worker]);
 	free(replies[worker]);
 }
 
 /* (over io_uring a reply is in two pieces) `size` is no more than MESSAGE: the header, and a payload. */
-static int32_t serve(void *user, unsigned worker, const nizwarf_segment *request, size_t segments,
-		     const nizwarf_room *room, size_t rooms, size_t *len)
+static int32_t serve(void *user, unsigned worker, const struct iovec *request, size_t segments,
+		     const struct iovec *room, size_t rooms, size_t *len)
 {
-	nizwarf_item items[ITEMS];
+	nizwarf_dirent items[ITEMS];
 	size_t size = 0, copied = 0;
 	int32_t code;
 
 	(void)segments;
 	for (size_t i = 0; i < rooms; i++)
-		size += room[i].len;
+		size += room[i].iov_len;
 	/* (the request is in one segment, as the transport of /dev/fuse says) */
-	code = nizwarf_serve_ops(&ops, user, &slots[worker], &session, request->at, request->len,
-				 rooms > 1 ? replies[worker] : room->at, size, items, ITEMS, len);
+	code = nizwarf_serve_ops(&ops, user, &slots[worker], &session, request->iov_base, request->iov_len,
+				 rooms > 1 ? replies[worker] : room->iov_base, size, items, ITEMS, len);
 	for (size_t i = 0; rooms > 1 && i < rooms && copied < *len; i++) {
-		const size_t part = *len - copied < room[i].len ? *len - copied : room[i].len;
+		const size_t part = *len - copied < room[i].iov_len ? *len - copied : room[i].iov_len;
 
-		memcpy(room[i].at, replies[worker] + copied, part);
+		memcpy(room[i].iov_base, replies[worker] + copied, part);
 		copied += part;
 	}
 	return code;
@@ -705,6 +705,6 @@ int main(int count, char **words)
 	/* (it ends with the process) */
 	pthread_detach(lines);
 	status = fuse_device_serve(&by, device, words[1 + by_ring]);
-	nizwarf_end_slot(&late_slot);
+	nizwarf_scratch_free(&late_slot);
 	return status;
 }

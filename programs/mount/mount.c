@@ -30,6 +30,7 @@
 #include <time.h>
 #include <unistd.h>
 #include "heap.h"
+#include "nizwarf_tree.h"
 #include "trace.h"
 
 static const char usage[] =
@@ -50,7 +51,7 @@ static const char usage[] =
 
 /* What the options say: set before there are workers, but for the time, which the first of them sets. Sizes
  * are in bytes. Strings point into the words of main(), and are not freed. */
-static nizwarf_settings settings = NIZWARF_SETTINGS;
+static nizwarf_server_config settings = NIZWARF_SERVER_CONFIG;
 static unsigned long flags = MS_NOSUID | MS_NODEV, max_read = TRANSPORT_PAYLOAD;
 static const char *name = "nizwarf", *allow_other = "", *trace_file;
 static int traces, by_ring = 1;
@@ -199,13 +200,13 @@ static const char *take_words(int count, char **words)
 
 /* The server, which has one caller at a time: whoever has the lock. How many workers there are that may;
  * the lock guards that too. A trace takes that of its file while it is held. */
-static nizwarf_server server = NIZWARF_NONE;
+static nizwarf_server server = NIZWARF_SERVER_INIT;
 static pthread_mutex_t lock = PTHREAD_MUTEX_INITIALIZER;
 static unsigned callers;
 /* With a trace: what is called then. Else the memory of each worker's last reply, by its number: that
  * worker alone has it, and frees it as it ends. */
 static transport traced;
-static nizwarf_taken taken[TRANSPORT_MOST_WORKERS + 1];
+static nizwarf_reply_buf taken[TRANSPORT_MOST_WORKERS + 1];
 
 /* How often a caller looks for the lock before it sleeps: for some 100 microseconds, in which the data of two or
  * three requests are copied. */
@@ -224,7 +225,8 @@ static int begin(void *user, unsigned worker)
 		clock_gettime(CLOCK_REALTIME, &now);
 		settings.seconds = (uint64_t)now.tv_sec;
 		settings.nanoseconds = (uint32_t)now.tv_nsec;
-		code = nizwarf_new(&server, (uint32_t)sysconf(_SC_PAGESIZE), TRANSPORT_PAYLOAD, &settings);
+		code = nizwarf_server_new(&server, (uint32_t)sysconf(_SC_PAGESIZE), TRANSPORT_PAYLOAD,
+					  &settings);
 	}
 	callers += code == NIZWARF_OK;
 	pthread_mutex_unlock(&lock);
@@ -237,9 +239,9 @@ static void end(void *user, unsigned worker)
 {
 	(void)user;
 	pthread_mutex_lock(&lock);
-	nizwarf_end_taken(&taken[worker]);
+	nizwarf_reply_buf_free(&taken[worker]);
 	if (!--callers)
-		nizwarf_end(&server);
+		nizwarf_server_free(&server);
 	pthread_mutex_unlock(&lock);
 }
 
@@ -250,16 +252,16 @@ static void tell_time(void)
 	struct timespec now;
 
 	clock_gettime(CLOCK_REALTIME, &now);
-	nizwarf_tell_time(&server, (uint64_t)now.tv_sec, (uint32_t)now.tv_nsec);
+	nizwarf_server_set_time(&server, (uint64_t)now.tv_sec, (uint32_t)now.tv_nsec);
 }
 
 /* Asks the server, whose reply goes into the rooms. The lock is held. */
-static int32_t serve(void *user, unsigned worker, const nizwarf_segment *request, size_t segments,
-		     const nizwarf_room *room, size_t rooms, size_t *len)
+static int32_t serve(void *user, unsigned worker, const struct iovec *request, size_t segments,
+		     const struct iovec *room, size_t rooms, size_t *len)
 {
 	(void)user, (void)worker;
 	tell_time();
-	return nizwarf_message(&server, request, segments, room, rooms, len);
+	return nizwarf_server_handle(&server, request, segments, room, rooms, len);
 }
 
 /* Takes the lock. (Another caller has it for less time than the looks take, unless it copies many data: so
@@ -280,8 +282,8 @@ static void leave_server(void)
 }
 
 /* The same with a trace, whose order is that of the server. */
-static int32_t serve_traced(void *user, unsigned worker, const nizwarf_segment *request, size_t segments,
-			    const nizwarf_room *room, size_t rooms, size_t *len)
+static int32_t serve_traced(void *user, unsigned worker, const struct iovec *request, size_t segments,
+			    const struct iovec *room, size_t rooms, size_t *len)
 {
 	int32_t code;
 
@@ -293,18 +295,18 @@ static int32_t serve_traced(void *user, unsigned worker, const nizwarf_segment *
 
 /* Copies a reply over the first bytes of the rooms, which are as many at least: the server was told how
  * many there are, and makes no longer reply. */
-static void put_reply(const unsigned char *reply, size_t len, const nizwarf_room *room)
+static void put_reply(const unsigned char *reply, size_t len, const struct iovec *room)
 {
 	for (size_t done; len; room++, reply += done, len -= done) {
-		done = len < room->len ? len : room->len;
-		memcpy(room->at, reply, done);
+		done = len < room->iov_len ? len : room->iov_len;
+		memcpy(room->iov_base, reply, done);
 	}
 }
 
 /* The same, whose reply is copied while another caller has the server. The reply lies in memory that the
  * server made and gave to this worker, until it asks again. NULL: there is none. */
-static int32_t serve_apart(void *user, unsigned worker, const nizwarf_segment *request, size_t segments,
-			   const nizwarf_room *room, size_t rooms, size_t *len)
+static int32_t serve_apart(void *user, unsigned worker, const struct iovec *request, size_t segments,
+			   const struct iovec *room, size_t rooms, size_t *len)
 {
 	const void *reply;
 	size_t space = 0;
@@ -312,10 +314,10 @@ static int32_t serve_apart(void *user, unsigned worker, const nizwarf_segment *r
 
 	(void)user;
 	for (size_t i = 0; i < rooms; i++)
-		space += room[i].len;
+		space += room[i].iov_len;
 	take_server();
 	tell_time();
-	code = nizwarf_message_take(&server, request, segments, space, &taken[worker], &reply, len);
+	code = nizwarf_server_handle_take(&server, request, segments, space, &taken[worker], &reply, len);
 	leave_server();
 	if (reply)
 		put_reply(reply, *len, room);

@@ -21,7 +21,7 @@
 /* How long a client may remember, in milliseconds. */
 enum { NO_TIME = 0, LONG_TIME = 86400000 };
 /* The rows that are offered, besides locks. */
-enum { OFFERS = NIZWARF_OFFER_STATX | NIZWARF_OFFER_COPY_64 | NIZWARF_OFFER_TMPFILE };
+enum { OFFERS = NIZWARF_FEATURE_STATX | NIZWARF_FEATURE_COPY_64 | NIZWARF_FEATURE_TMPFILE };
 /* How many descriptors a call of a worker opens and closes again: of two nodes, and one more. */
 enum { PASSING = 3 };
 
@@ -41,35 +41,35 @@ static bool add_piece(struct worker *w, size_t *count, void *at, size_t len, siz
 }
 
 /* The data of a WRITE, where they lie: -1, or how many pieces. */
-static ssize_t find_data(struct worker *w, const nizwarf_call *asked, const nizwarf_segment *request,
+static ssize_t find_data(struct worker *w, const nizwarf_call *asked, const struct iovec *request,
 			 size_t segments)
 {
 	size_t count = 0, skip = asked->data.at, left = asked->data.len;
 
 	left = left < asked->size ? left : asked->size;
 	for (size_t i = 0; i < segments && left; i++) {
-		const size_t past = skip < request[i].len ? skip : request[i].len;
+		const size_t past = skip < request[i].iov_len ? skip : request[i].iov_len;
 
 		skip -= past;
 		/* (pwritev takes pointers to what it only reads) */
-		if (!add_piece(w, &count, (uint8_t *)(uintptr_t)request[i].at + past, request[i].len - past,
-			       &left))
+		if (!add_piece(w, &count, (uint8_t *)(uintptr_t)request[i].iov_base + past,
+			       request[i].iov_len - past, &left))
 			return -1;
 	}
 	return (ssize_t)count;
 }
 
 /* The room for the data of a READ: -1, or how many pieces. */
-static ssize_t find_room(struct worker *w, const nizwarf_call *asked, const nizwarf_room *room, size_t rooms)
+static ssize_t find_room(struct worker *w, const nizwarf_call *asked, const struct iovec *room, size_t rooms)
 {
-	size_t count = 0, skip = HEADER, left = nizwarf_read_room(asked);
+	size_t count = 0, skip = HEADER, left = nizwarf_read_max(asked);
 
 	left = left < asked->size ? left : asked->size;
 	for (size_t i = 0; i < rooms && left; i++) {
-		const size_t past = skip < room[i].len ? skip : room[i].len;
+		const size_t past = skip < room[i].iov_len ? skip : room[i].iov_len;
 
 		skip -= past;
-		if (!add_piece(w, &count, (uint8_t *)room[i].at + past, room[i].len - past, &left))
+		if (!add_piece(w, &count, (uint8_t *)room[i].iov_base + past, room[i].iov_len - past, &left))
 			return -1;
 	}
 	return (ssize_t)count;
@@ -98,8 +98,8 @@ static void agree_on(struct passthrough *all, unsigned client, uint64_t options)
 }
 
 /* Makes the call, and gives back what the client doesn't get. */
-static int32_t answer_call(struct call *call, const nizwarf_session *session, const nizwarf_room *room,
-			   size_t rooms, ssize_t pieces, nizwarf_told *told)
+static int32_t answer_call(struct call *call, const nizwarf_session *session, const struct iovec *room,
+			   size_t rooms, ssize_t pieces, nizwarf_result *result)
 {
 	struct passthrough *all = call->all;
 	const nizwarf_call *asked = call->asked;
@@ -110,16 +110,16 @@ static int32_t answer_call(struct call *call, const nizwarf_session *session, co
 	call->pieces = pieces < 0 ? 0 : (size_t)pieces;
 	answer->error = pieces < 0 ? ENOMEM : make_call(call);
 	/* (who waits for the lock answers it) */
-	if (answer->error == LOCK_WAITS && asked->call == NIZWARF_SETLKW)
-		return NIZWARF_ASKED;
+	if (answer->error == LOCK_WAITS && asked->opcode == NIZWARF_SETLKW)
+		return NIZWARF_CALL;
 	/* (the slot that it was asked with has memory for the reply) */
-	code = nizwarf_reply(&call->worker->slot, session, asked, answer, room, rooms, told);
-	if (asked->call == NIZWARF_INIT || asked->call == NIZWARF_DESTROY)
-		agree_on(all, call->client, told->options);
-	if (told->give_back)
-		node_forget(&all->nodes, call->client, told->give_back, 1);
-	if (asked->call == NIZWARF_READDIR)
-		for (size_t i = told->taken; i < answer->items_len; i++)
+	code = nizwarf_encode(&call->worker->slot, session, asked, answer, room, rooms, result);
+	if (asked->opcode == NIZWARF_INIT || asked->opcode == NIZWARF_DESTROY)
+		agree_on(all, call->client, result->options);
+	if (result->forget)
+		node_forget(&all->nodes, call->client, result->forget, 1);
+	if (asked->opcode == NIZWARF_READDIR)
+		for (size_t i = result->entries; i < answer->items_len; i++)
 			if (answer->items[i].entry.node)
 				node_forget(&all->nodes, call->client, answer->items[i].entry.node, 1);
 	if (code != NIZWARF_OK && answer->has_handle)
@@ -128,33 +128,33 @@ static int32_t answer_call(struct call *call, const nizwarf_session *session, co
 }
 
 /* Whether a request gives something back. Its client thinks that it did, whatever the reply is. */
-static bool gives_back(const nizwarf_segment *request)
+static bool gives_back(const struct iovec *request)
 {
 	struct fuse_in_header header;
 
-	if (request->len < sizeof(header))
+	if (request->iov_len < sizeof(header))
 		return false;
-	memcpy(&header, request->at, sizeof(header));
+	memcpy(&header, request->iov_base, sizeof(header));
 	return header.opcode == FUSE_FORGET || header.opcode == FUSE_BATCH_FORGET ||
 	       header.opcode == FUSE_RELEASE || header.opcode == FUSE_RELEASEDIR ||
 	       header.opcode == FUSE_DESTROY;
 }
 
-/* The request in one piece, which the door asks with fewer steps. (If it isn't in one, it is a WRITE, of which the door
+/* The request in one piece, which the codec asks with fewer steps. (If it isn't in one, it is a WRITE, of which the codec
  * reads the first alone; and after that is memory for all of it.) */
-static nizwarf_segment in_one(const nizwarf_segment *request, size_t segments)
+static struct iovec in_one(const struct iovec *request, size_t segments)
 {
-	nizwarf_segment whole = { request->at, 0 };
+	struct iovec whole = { request->iov_base, 0 };
 
 	for (size_t i = 0; i < segments; i++)
-		whole.len += request[i].len;
+		whole.iov_len += request[i].iov_len;
 	return whole;
 }
 
 /* Asks what a request asks for. One that gives something back waits for memory, up to ten seconds. */
 static int32_t ask(struct worker *w, const nizwarf_session *session, uint32_t offers,
-		   const nizwarf_segment *request, const nizwarf_room *room, size_t rooms,
-		   nizwarf_call *asked, nizwarf_told *told)
+		   const struct iovec *request, const struct iovec *room, size_t rooms, nizwarf_call *asked,
+		   nizwarf_result *result)
 {
 	int32_t code = NIZWARF_OUT_OF_MEMORY;
 
@@ -163,26 +163,26 @@ static int32_t ask(struct worker *w, const nizwarf_session *session, uint32_t of
 			break;
 		if (tries)
 			let_pass();
-		code = nizwarf_ask_offered(&w->slot, session, offers, request, 1, room, rooms, asked, told);
+		code = nizwarf_decode(&w->slot, session, offers, request, 1, room, rooms, asked, result);
 	}
 	return code;
 }
 
-int32_t passthrough_serve(void *user, unsigned worker, const nizwarf_segment *request, size_t segments,
-			  const nizwarf_room *room, size_t rooms, size_t *len)
+int32_t passthrough_serve(void *user, unsigned worker, const struct iovec *request, size_t segments,
+			  const struct iovec *room, size_t rooms, size_t *len)
 {
 	struct passthrough *all = user;
 	struct worker *w = all->worker[worker];
-	const nizwarf_segment whole = in_one(request, segments);
+	const struct iovec whole = in_one(request, segments);
 	const nizwarf_session session = { atomic_load(&all->agreed), 4096, all->options.payload };
-	nizwarf_answer answer = NIZWARF_NO_ANSWER;
+	nizwarf_answer answer = NIZWARF_ANSWER_INIT;
 	nizwarf_call asked;
-	nizwarf_told told = { 0 };
+	nizwarf_result result = { 0 };
 	struct call call = { .all = all,
 			     .worker = w,
 			     .client = vhost_user_client(),
 			     .asked = &asked,
-			     .request = request->at,
+			     .request = request->iov_base,
 			     .data = NULL,
 			     .pieces = 0,
 			     .node = { NULL, -1, -1 },
@@ -192,19 +192,19 @@ int32_t passthrough_serve(void *user, unsigned worker, const nizwarf_segment *re
 	ssize_t pieces = 0;
 	int32_t code;
 
-	code = ask(w, &session, all->offers, &whole, room, rooms, &asked, &told);
-	if (told.interrupts && all->locks)
-		locks_interrupt(all->locks, call.client, told.interrupts);
-	if (code != NIZWARF_ASKED) {
-		*len = told.len;
+	code = ask(w, &session, all->offers, &whole, room, rooms, &asked, &result);
+	if (result.interrupts && all->locks)
+		locks_interrupt(all->locks, call.client, result.interrupts);
+	if (code != NIZWARF_CALL) {
+		*len = result.len;
 		return code;
 	}
-	if (asked.call == NIZWARF_WRITE)
+	if (asked.opcode == NIZWARF_WRITE)
 		pieces = find_data(w, &asked, request, segments);
-	else if (asked.call == NIZWARF_READ)
+	else if (asked.opcode == NIZWARF_READ)
 		pieces = find_room(w, &asked, room, rooms);
-	code = answer_call(&call, &session, room, rooms, pieces, &told);
-	*len = told.len;
+	code = answer_call(&call, &session, room, rooms, pieces, &result);
+	*len = result.len;
 	return code;
 }
 
@@ -236,7 +236,7 @@ void passthrough_finish(void *user, unsigned worker)
 {
 	struct worker *w = ((struct passthrough *)user)->worker[worker];
 
-	nizwarf_end_slot(&w->slot);
+	nizwarf_scratch_free(&w->slot);
 }
 
 /* What a client had that has gone, out of the tables. It is freed by who closes it. */
@@ -313,17 +313,17 @@ void passthrough_recall(void *user)
  * closed, and a file that is read ends where bytes of a page are missing. -1: it failed. */
 static int look_at_folder(struct passthrough *all, int root)
 {
-	struct statfs told;
+	struct statfs result;
 	struct stat seen;
 
-	if (fstatfs(root, &told) || fstat(root, &seen))
+	if (fstatfs(root, &result) || fstat(root, &seen))
 		return -1;
-	all->is_local = told.f_type == EXT4_SUPER_MAGIC || told.f_type == XFS_SUPER_MAGIC ||
-			told.f_type == BTRFS_SUPER_MAGIC || told.f_type == TMPFS_MAGIC;
+	all->is_local = result.f_type == EXT4_SUPER_MAGIC || result.f_type == XFS_SUPER_MAGIC ||
+			result.f_type == BTRFS_SUPER_MAGIC || result.f_type == TMPFS_MAGIC;
 	all->local_device = seen.st_dev;
 	/* (where one will do, the mount may be below another file system) */
-	all->stack_depth = told.f_type == OVERLAYFS_SUPER_MAGIC || told.f_type == ECRYPTFS_SUPER_MAGIC ||
-					   told.f_type == FUSE_SUPER_MAGIC ?
+	all->stack_depth = result.f_type == OVERLAYFS_SUPER_MAGIC || result.f_type == ECRYPTFS_SUPER_MAGIC ||
+					   result.f_type == FUSE_SUPER_MAGIC ?
 				   2 :
 				   1;
 	all->numbers = numbers_new(seen.st_dev);
@@ -376,8 +376,8 @@ struct passthrough *passthrough_new(int root, int proc, const struct passthrough
 	all->options = *options;
 	pthread_mutex_init(&all->agreeing, NULL);
 	set_times(all);
-	all->offers = OFFERS | (options->flock || options->posix_lock ? NIZWARF_OFFER_LOCKS : 0) |
-		      (options->passthrough ? NIZWARF_OFFER_INIT : 0);
+	all->offers = OFFERS | (options->flock || options->posix_lock ? NIZWARF_FEATURE_LOCKS : 0) |
+		      (options->passthrough ? NIZWARF_FEATURE_INIT : 0);
 	/* What is not remembered is not written later: the kernel would tell of times that are not so. */
 	if (options->cache == CACHE_NEVER || options->cache == CACHE_METADATA)
 		all->options.writeback = false;

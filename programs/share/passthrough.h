@@ -1,4 +1,4 @@
-/* A passthrough: a folder of the host as a file system over the door of nizwarf.h, for the
+/* A passthrough: a folder of the host as a file system over the codec of nizwarf.h, for the
  * transports of transport.h.
  *
  * No path is walked: each name is looked up in a directory that is open, and no symbolic link is
@@ -119,7 +119,7 @@ void passthrough_parted(void *user);
 void passthrough_recall(void *user);
 int passthrough_save(void *user, transport_state *to);
 int passthrough_load(void *user, transport_state *from);
-int32_t passthrough_serve(void *user, unsigned worker, const nizwarf_segment *request, size_t segments,
-			  const nizwarf_room *room, size_t rooms, size_t *len);
+int32_t passthrough_serve(void *user, unsigned worker, const struct iovec *request, size_t segments,
+			  const struct iovec *room, size_t rooms, size_t *len);
 
 #endif

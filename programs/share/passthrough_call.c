@@ -100,7 +100,7 @@ static int get_statx(const struct call *call)
 {
 	const int fd = call->file ? call->file->counted.fd : call->node.fd;
 	const unsigned asked = nizwarf_statx_mask(call->asked) & (STATX_BASIC_STATS | STATX_BTIME);
-	nizwarf_statx told = { 0 };
+	nizwarf_statx result = { 0 };
 	nizwarf_entry entry;
 	struct statx seen;
 
@@ -109,28 +109,28 @@ static int get_statx(const struct call *call)
 		  asked | WANTED, &seen))
 		return errno;
 	tell_attr(call, &seen, call->node.node->is_apart, &entry);
-	told.attr_seconds = entry.attr_seconds;
-	told.attr_nanoseconds = entry.attr_nanoseconds;
-	told.mask = seen.stx_mask & (STATX_BASIC_STATS | STATX_BTIME);
-	told.blksize = seen.stx_blksize;
-	told.nlink = seen.stx_nlink;
-	told.uid = entry.attr.uid;
-	told.gid = entry.attr.gid;
-	told.mode = seen.stx_mode;
-	told.ino = entry.attr.ino;
-	told.size = seen.stx_size;
-	told.blocks = seen.stx_blocks;
-	told.atime = time_of(&seen.stx_atime);
-	told.btime = time_of(&seen.stx_btime);
-	told.ctime = time_of(&seen.stx_ctime);
-	told.mtime = time_of(&seen.stx_mtime);
-	told.rdev_major = seen.stx_rdev_major;
-	told.rdev_minor = seen.stx_rdev_minor;
+	result.attr_seconds = entry.attr_seconds;
+	result.attr_nanoseconds = entry.attr_nanoseconds;
+	result.mask = seen.stx_mask & (STATX_BASIC_STATS | STATX_BTIME);
+	result.blksize = seen.stx_blksize;
+	result.nlink = seen.stx_nlink;
+	result.uid = entry.attr.uid;
+	result.gid = entry.attr.gid;
+	result.mode = seen.stx_mode;
+	result.ino = entry.attr.ino;
+	result.size = seen.stx_size;
+	result.blocks = seen.stx_blocks;
+	result.atime = time_of(&seen.stx_atime);
+	result.btime = time_of(&seen.stx_btime);
+	result.ctime = time_of(&seen.stx_ctime);
+	result.mtime = time_of(&seen.stx_mtime);
+	result.rdev_major = seen.stx_rdev_major;
+	result.rdev_minor = seen.stx_rdev_minor;
 	/* (the answer only points to its text, up to when the reply is written: so it is in the worker's
 	 * memory) */
-	memcpy(call->worker->text, &told, sizeof(told));
+	memcpy(call->worker->text, &result, sizeof(result));
 	call->answer->text = (const uint8_t *)call->worker->text;
-	call->answer->text_len = sizeof(told);
+	call->answer->text_len = sizeof(result);
 	return 0;
 }
 
@@ -304,7 +304,7 @@ bool is_local(const struct call *call)
 /* Whether what is opened is watched. (What is made has nothing that is remembered.) */
 static bool is_watched(const struct call *call)
 {
-	return (call->asked->call == NIZWARF_OPEN || call->asked->call == NIZWARF_OPENDIR) &&
+	return (call->asked->opcode == NIZWARF_OPEN || call->asked->opcode == NIZWARF_OPENDIR) &&
 	       call->node.node->watched;
 }
 
@@ -351,7 +351,7 @@ static int add_file(const struct call *call, uint64_t node, int fd, int flags, s
 
 static int open_file(const struct call *call)
 {
-	const bool is_directory = call->asked->call == NIZWARF_OPENDIR;
+	const bool is_directory = call->asked->opcode == NIZWARF_OPENDIR;
 	const int flags = is_directory ? O_RDONLY | O_DIRECTORY : flags_of(call);
 	struct nodes *nodes = &call->all->nodes;
 	struct backing *backing = NULL;
@@ -417,7 +417,7 @@ static int label_new(const struct call *call, const char *name, int fd)
 {
 	const int error = label(call, fd);
 
-	if (error && call->asked->call == NIZWARF_CREATE)
+	if (error && call->asked->opcode == NIZWARF_CREATE)
 		unmake_of(call->node.fd, name, fd);
 	if (error)
 		close(fd);
@@ -526,19 +526,19 @@ static int sync_all(const struct call *call)
 /* STATFS: what the host says of the node's file system, which may be another one than the folder's. */
 static int statistics(const struct call *call)
 {
-	struct statvfs told;
+	struct statvfs result;
 
-	if (fstatvfs(call->node.fd, &told))
+	if (fstatvfs(call->node.fd, &result))
 		return errno;
 	call->answer->statfs = (nizwarf_statfs){
-		.bsize = told.f_bsize,
-		.frsize = told.f_frsize,
-		.blocks = told.f_blocks,
-		.bfree = told.f_bfree,
-		.bavail = told.f_bavail,
-		.files = told.f_files,
-		.ffree = told.f_ffree,
-		.namemax = told.f_namemax,
+		.bsize = result.f_bsize,
+		.frsize = result.f_frsize,
+		.blocks = result.f_blocks,
+		.bfree = result.f_bfree,
+		.bavail = result.f_bavail,
+		.files = result.f_files,
+		.ffree = result.f_ffree,
+		.namemax = result.f_namemax,
 	};
 	return 0;
 }
@@ -559,7 +559,7 @@ static int remove_name(const struct call *call, const char *name, int flags)
 /* Whether a call changes something of the folder. */
 static bool changes(const nizwarf_call *asked)
 {
-	switch (asked->call) {
+	switch (asked->opcode) {
 	case NIZWARF_SETATTR:
 	case NIZWARF_SYMLINK:
 	case NIZWARF_MKNOD:
@@ -588,7 +588,7 @@ static bool changes(const nizwarf_call *asked)
 /* Whether a call makes do with its open file, and needs no descriptor of its node. */
 static bool needs_file_alone(const nizwarf_call *asked)
 {
-	switch (asked->call) {
+	switch (asked->opcode) {
 	/* (the one looks its names up in the node, the other sets owner and times by it) */
 	case NIZWARF_READDIR:
 	case NIZWARF_SETATTR:
@@ -605,7 +605,7 @@ static int check_names(const struct call *call)
 	/* (any name that is plain, where a call has one alone) */
 	const char *name = name_of(call, asked->name), *other = "other";
 
-	switch (asked->call) {
+	switch (asked->opcode) {
 	case NIZWARF_RENAME:
 		other = name_of(call, asked->other_name);
 		break;
@@ -633,7 +633,7 @@ static int make_of_node(const struct call *call)
 	const nizwarf_call *asked = call->asked;
 	const char *name = name_of(call, asked->name);
 
-	switch (asked->call) {
+	switch (asked->opcode) {
 	case NIZWARF_LOOKUP:
 		return find_name(call, name);
 	case NIZWARF_GETATTR:
@@ -685,8 +685,8 @@ static int make_of_node(const struct call *call)
 /* Whether a call is of a node, which it may name by an open file. */
 static bool is_of_node(const nizwarf_call *asked)
 {
-	return asked->call == NIZWARF_GETATTR || asked->call == NIZWARF_SETATTR ||
-	       asked->call == NIZWARF_STATX;
+	return asked->opcode == NIZWARF_GETATTR || asked->opcode == NIZWARF_SETATTR ||
+	       asked->opcode == NIZWARF_STATX;
 }
 
 /* Takes in hand what a call is of, and makes it. */
@@ -703,7 +703,7 @@ static int make_with_node(struct call *call)
 		call->file = file_get(nodes, asked->handle);
 		error = call->file ? 0 : EBADF;
 	}
-	if (!error && (asked->call == NIZWARF_RENAME || asked->call == NIZWARF_LINK))
+	if (!error && (asked->opcode == NIZWARF_RENAME || asked->opcode == NIZWARF_LINK))
 		error = node_get(nodes, asked->other_node, &call->other);
 	/* (while one was taken in hand the client may have gone, and a number be the next one's) */
 	if (!error && !is_there(call))
@@ -753,11 +753,11 @@ uint64_t wanted(const struct passthrough *all)
 static void want_further(const struct call *call)
 {
 	struct passthrough *all = call->all;
-	const nizwarf_init_more more = { .want = NIZWARF_PASSTHROUGH, .max_stack_depth = all->stack_depth };
+	const nizwarf_init_params more = { .want = NIZWARF_PASSTHROUGH, .max_stack_depth = all->stack_depth };
 
 	if (!all->backings)
 		return;
-	if (!(nizwarf_init_further(call->asked) & NIZWARF_PASSTHROUGH)) {
+	if (!(nizwarf_init_ext_flags(call->asked) & NIZWARF_PASSTHROUGH)) {
 		transport_say("nizwarf-share",
 			      "--passthrough: Linux has it from 6.9 on: files are served by requests");
 		return;
@@ -793,7 +793,7 @@ const char *lacking_option(const struct passthrough *all, uint64_t options)
 static int agree(const struct call *call)
 {
 	struct passthrough *all = call->all;
-	const uint64_t offered = nizwarf_init_offered(call->asked);
+	const uint64_t offered = nizwarf_init_capable(call->asked);
 	const char *lacking = lacking_option(all, offered);
 
 	forget_all(call);
@@ -826,7 +826,7 @@ int make_call(struct call *call)
 	const nizwarf_call *asked = call->asked;
 	struct passthrough *all = call->all;
 
-	switch (asked->call) {
+	switch (asked->opcode) {
 	case NIZWARF_INIT:
 		return agree(call);
 	case NIZWARF_DESTROY:

@@ -19,7 +19,7 @@ enum { SHORT_TIME = 1000 };
 
 /* What a worker uses again from one call to the next. */
 struct worker {
-	nizwarf_slot slot;
+	nizwarf_scratch slot;
 	/* Whether it is root, its capabilities, by bits, and its group; and whether it has its other
 	 * groups for good. */
 	bool is_root, keeps_groups;
@@ -29,7 +29,7 @@ struct worker {
 	bool expects_new;
 	/* A text, as that of a symbolic link. */
 	char text[LONGEST_VALUE + 1];
-	nizwarf_item *items;
+	nizwarf_dirent *items;
 	size_t items_size;
 	/* How many items have entries, from the first one on. */
 	size_t entries;

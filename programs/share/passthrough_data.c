@@ -53,7 +53,7 @@ static ssize_t move(int fd, bool is_read, const struct iovec *data, int pieces, 
 static int transfer(const struct call *call)
 {
 	const nizwarf_call *asked = call->asked;
-	const bool is_read = asked->call == NIZWARF_READ;
+	const bool is_read = asked->opcode == NIZWARF_READ;
 	const int fd = call->file->counted.fd;
 	struct iovec *data = call->data;
 	size_t pieces = call->pieces, done = 0;
@@ -85,7 +85,7 @@ static int transfer(const struct call *call)
 		if (moved < 0 && errno == EINTR)
 			continue;
 		/* (of what a kernel writes later it doesn't look at how much was written) */
-		if (moved < 0 && (!done || asked->has & NIZWARF_DELAYED))
+		if (moved < 0 && (!done || asked->has & NIZWARF_WRITE_CACHE))
 			return errno;
 		if (moved <= 0)
 			break;
@@ -145,7 +145,7 @@ static int leave_direct(const struct call *call)
 	int flags, error = 0;
 
 	if (!atomic_load_explicit(&file->is_direct, memory_order_relaxed) ||
-	    !(call->asked->has & NIZWARF_DELAYED))
+	    !(call->asked->has & NIZWARF_WRITE_CACHE))
 		return 0;
 	pthread_rwlock_wrlock(&file->writing);
 	flags = fcntl(fd, F_GETFL);
@@ -163,7 +163,7 @@ static bool is_append(const struct call *call)
 {
 	const nizwarf_call *asked = call->asked;
 
-	return asked->flags & O_APPEND && !(asked->has & NIZWARF_DELAYED) && !writes_later(call);
+	return asked->flags & O_APPEND && !(asked->has & NIZWARF_WRITE_CACHE) && !writes_later(call);
 }
 
 /* WRITE. The rights that keep set-user-ID bits are this thread's, and are had again at each return. */
@@ -267,7 +267,7 @@ static int sync_file(const struct call *call)
 {
 	const int fd = call->file->counted.fd;
 
-	return failed(call->asked->has & NIZWARF_DATASYNC ? fdatasync(fd) : fsync(fd));
+	return failed(call->asked->has & NIZWARF_FSYNC_FDATASYNC ? fdatasync(fd) : fsync(fd));
 }
 
 typedef int maker(const struct call *call);
@@ -290,12 +290,12 @@ static maker *maker_of(uint32_t call)
 
 bool wants_file(const nizwarf_call *asked)
 {
-	return maker_of(asked->call) || asked->has & NIZWARF_HAS_HANDLE;
+	return maker_of(asked->opcode) || asked->has & NIZWARF_HAS_HANDLE;
 }
 
 int make_of_file(const struct call *call)
 {
-	maker *const make = maker_of(call->asked->call);
+	maker *const make = maker_of(call->asked->opcode);
 
 	return make ? make(call) : ENOSYS;
 }

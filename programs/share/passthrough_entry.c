@@ -53,7 +53,7 @@ static void put_attr(const struct call *call, const struct statx *seen, bool is_
  * has already, of which it takes no answer that was under way then. */
 static bool is_told_of(const struct call *call)
 {
-	return (call->asked->call == NIZWARF_GETATTR || call->asked->call == NIZWARF_STATX) &&
+	return (call->asked->opcode == NIZWARF_GETATTR || call->asked->opcode == NIZWARF_STATX) &&
 	       call->node.node->watched;
 }
 
@@ -92,7 +92,7 @@ void tell_entry(const struct call *call, uint64_t number, const struct statx *se
 	/* (a LINK is of the file's own node) */
 	const struct node *node = call->node.node;
 	const bool across = is_across(node, seen), is_directory = S_ISDIR(seen->stx_mode);
-	const bool is_link = call->asked->call == NIZWARF_LINK;
+	const bool is_link = call->asked->opcode == NIZWARF_LINK;
 	uint64_t time = name_time(call, is_link ? call->other.node : node, all->entry_time);
 
 	/* (nobody says that it is mounted no longer) */

@@ -65,7 +65,7 @@ struct locks {
 	/* Of requests that don't wait, or not yet. */
 	nizwarf_interrupts early;
 	pthread_mutex_t replying;
-	nizwarf_slot slot;
+	nizwarf_scratch slot;
 };
 
 /* The signal that ends a waiting. (SIGRTMIN is the transports'.) */

@@ -89,13 +89,13 @@ struct space {
 /* A place for one item more, without an entry; NULL: there is no memory. What is new is zeroed, and so
  * is each entry that a listing used, before the next one: so an item that gets none says that nothing
  * was looked up. */
-static nizwarf_item *add_item(struct worker *w, size_t count)
+static nizwarf_dirent *add_item(struct worker *w, size_t count)
 {
 	const size_t size = w->items_size;
 
-	if (count < size / sizeof(nizwarf_item))
+	if (count < size / sizeof(nizwarf_dirent))
 		return &w->items[count];
-	if (!grow(&w->items, &w->items_size, 2 * size + 64 * sizeof(nizwarf_item)))
+	if (!grow(&w->items, &w->items_size, 2 * size + 64 * sizeof(nizwarf_dirent)))
 		return NULL;
 	memset(&w->items[count], 0, w->items_size - size);
 	return &w->items[count];
@@ -139,7 +139,7 @@ static bool put_item(const struct call *call, const struct dirent64 *found, bool
 	const bool plus = call->asked->has & NIZWARF_PLUS;
 	const size_t len = strlen(found->d_name) + 1, size = nizwarf_record_size(len, plus);
 	struct worker *w = call->worker;
-	nizwarf_item *item;
+	nizwarf_dirent *item;
 
 	if (size > space->room)
 		return false;

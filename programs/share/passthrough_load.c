@@ -137,16 +137,16 @@ static int open_name(struct loading *l, uint32_t parent, const char *name, int f
  * it is lost. */
 static int load_directory(struct loading *l)
 {
-	struct state_directory told;
+	struct state_directory result;
 	int fd = -1, error;
 
-	if (!state_decode_directory(l->body, l->len, &told) || told.parent >= l->count)
+	if (!state_decode_directory(l->body, l->len, &result) || result.parent >= l->count)
 		return state_refuse("a state with a directory that cannot be");
 	/* (as many as passthrough_save() puts there) */
 	if (++l->directories > (size_t)l->all->options.most_nodes + STATE_SPARE_DIRECTORIES)
 		return state_refuse("a state with too many directories");
 	error = fd_reserve(&l->all->nodes, 1);
-	if (!error && (fd = open_name(l, told.parent, told.name, O_PATH | O_DIRECTORY)) < 0) {
+	if (!error && (fd = open_name(l, result.parent, result.name, O_PATH | O_DIRECTORY)) < 0) {
 		error = errno;
 		fd_give_back(&l->all->nodes, 1);
 	}
@@ -171,13 +171,13 @@ static int load_mount(struct loading *l)
 /* ---- nodes */
 
 /* Whether a descriptor is of the file that a handle names, as the host makes the handle of it. */
-static bool has_handle(int fd, const struct state_node *told)
+static bool has_handle(int fd, const struct state_node *result)
 {
 	union handle_room room;
 
-	return handle_by(fd, &room) && room.handle.handle_type == told->handle_type &&
-	       room.handle.handle_bytes == told->handle_size &&
-	       !memcmp(room.handle.f_handle, told->handle, told->handle_size);
+	return handle_by(fd, &room) && room.handle.handle_type == result->handle_type &&
+	       room.handle.handle_bytes == result->handle_size &&
+	       !memcmp(room.handle.f_handle, result->handle, result->handle_size);
 }
 
 /* Whether a file was opened that was seen. The descriptor is closed. */
@@ -196,7 +196,7 @@ static bool is_file(int fd, const struct statx *seen)
 /* Whether a file that was opened by its handle may be the client's: if it is in the folder, by a path that Linux knows or by
  * the place that the state has; or if files without a name may be opened, and it has none. By a handle any file of the file
  * system opens, so without this whoever sends a state could have one from outside. */
-static bool is_in_folder(struct loading *l, int fd, const struct state_node *told)
+static bool is_in_folder(struct loading *l, int fd, const struct state_node *result)
 {
 	struct statx seen;
 
@@ -205,26 +205,26 @@ static bool is_in_folder(struct loading *l, int fd, const struct state_node *tol
 	if (find_path(&l->paths, fd, &seen, l->path) >= 0 &&
 	    is_file(open_below(&l->paths, l->path, O_PATH), &seen))
 		return true;
-	if (told->parent != NOWHERE && is_file(open_name(l, told->parent, told->name, O_PATH), &seen))
+	if (result->parent != NOWHERE && is_file(open_name(l, result->parent, result->name, O_PATH), &seen))
 		return true;
 	return l->all->options.takes_unlinked && l->all->strays < MOST_STRAYS && !S_ISDIR(seen.stx_mode) &&
 	       !seen.stx_nlink;
 }
 
 /* Opens a file by its handle. -1: errno says why. */
-static int open_handle(struct loading *l, const struct state_node *told)
+static int open_handle(struct loading *l, const struct state_node *result)
 {
-	const int mount = told->mount < l->mount_count ? l->mounts[told->mount] : -1;
+	const int mount = result->mount < l->mount_count ? l->mounts[result->mount] : -1;
 	union handle_room room;
 	int fd, error = ESTALE;
 
 	/* (the room has MAX_HANDLE_SZ bytes, and the size was compared with it) */
-	room.handle.handle_type = told->handle_type;
-	room.handle.handle_bytes = told->handle_size;
-	memcpy(room.handle.f_handle, told->handle, told->handle_size);
+	room.handle.handle_type = result->handle_type;
+	room.handle.handle_bytes = result->handle_size;
+	memcpy(room.handle.f_handle, result->handle, result->handle_size);
 	fd = mount < 0 ? -1 : open_by_handle_at(mount, &room.handle, O_PATH | O_NOFOLLOW | O_CLOEXEC);
 	/* (A handle that is cut, or made up, may open something. So the host makes the handle of what was opened.) */
-	if (fd >= 0 && has_handle(fd, told) && is_in_folder(l, fd, told))
+	if (fd >= 0 && has_handle(fd, result) && is_in_folder(l, fd, result))
 		return fd;
 	if (fd >= 0) {
 		close(fd);
@@ -236,13 +236,13 @@ static int open_handle(struct loading *l, const struct state_node *told)
 }
 
 /* Opens a file by its name; if it has a handle, it must be that of this file. -1: errno says why, EXDEV that it is not. */
-static int open_place(struct loading *l, const struct state_node *told)
+static int open_place(struct loading *l, const struct state_node *result)
 {
 	int fd;
 
 	errno = ENOENT;
-	fd = told->parent == NOWHERE ? -1 : open_name(l, told->parent, told->name, O_PATH);
-	if (fd >= 0 && told->handle_size && !has_handle(fd, told)) {
+	fd = result->parent == NOWHERE ? -1 : open_name(l, result->parent, result->name, O_PATH);
+	if (fd >= 0 && result->handle_size && !has_handle(fd, result)) {
 		close(fd);
 		fd = -1;
 		errno = EXDEV;
@@ -252,29 +252,31 @@ static int open_place(struct loading *l, const struct state_node *told)
 
 /* The folder, which must be the first entry, and no other. It is there, by what this server was started with. If files are
  * verified, its handle shows whether it is the other server's folder; by handles it needs not be. */
-static int load_root(struct loading *l, const struct state_node *told)
+static int load_root(struct loading *l, const struct state_node *result)
 {
-	if (l->count || told->parent != NOWHERE)
+	if (l->count || result->parent != NOWHERE)
 		return state_refuse("a state with a folder that cannot be");
-	if (told->handle_size && l->header.mode != MIGRATES_BY_HANDLES && !has_handle(l->paths.root, told))
+	if (result->handle_size && l->header.mode != MIGRATES_BY_HANDLES &&
+	    !has_handle(l->paths.root, result))
 		return state_refuse("the folder is another one");
 	return add_entry(l, ROOT_NODE, -1, 0);
 }
 
 /* Opens and enters a node: 0, or an error. */
-static int restore_node(struct loading *l, const struct state_node *told)
+static int restore_node(struct loading *l, const struct state_node *result)
 {
 	struct statx seen;
-	const int fd = l->header.mode == MIGRATES_BY_HANDLES ? open_handle(l, told) : open_place(l, told);
+	const int fd = l->header.mode == MIGRATES_BY_HANDLES ? open_handle(l, result) : open_place(l, result);
 	int error;
 
 	if (fd < 0)
 		return errno;
 	/* (the type must be that of before) */
-	error = look_at(fd, &seen) ? errno : (seen.stx_mode & S_IFMT) != told->type ? EXDEV : 0;
+	error = look_at(fd, &seen) ? errno : (seen.stx_mode & S_IFMT) != result->type ? EXDEV : 0;
 	/* (it has the descriptor from then on, also if it fails) */
 	if (!error)
-		return node_restore(&l->all->nodes, fd, &seen, told->number, told->lookups, told->is_apart);
+		return node_restore(&l->all->nodes, fd, &seen, result->number, result->lookups,
+				    result->is_apart);
 	close(fd);
 	return error;
 }
@@ -282,34 +284,34 @@ static int restore_node(struct loading *l, const struct state_node *told)
 /* A NODE. What no server sends is refused, and ends the loading. What cannot be found is lost. */
 static int load_node(struct loading *l)
 {
-	struct state_node told;
+	struct state_node result;
 	int error;
 
-	if (!state_decode_node(l->body, l->len, &told))
+	if (!state_decode_node(l->body, l->len, &result))
 		return state_refuse("a state with a node that cannot be");
 	l->end.nodes++;
-	if (told.number == ROOT_NODE)
-		return load_root(l, &told);
-	if (!l->count || (told.parent != NOWHERE && told.parent >= l->count))
+	if (result.number == ROOT_NODE)
+		return load_root(l, &result);
+	if (!l->count || (result.parent != NOWHERE && result.parent >= l->count))
 		return state_refuse("a state with a node in no directory");
 	if (l->has_no_session)
 		return state_refuse("a state with files, of a client that has no session");
 	/* (a number's lower half is below the other server's --node-limit) */
-	if (l->end.nodes > l->all->options.most_nodes || (uint32_t)told.number > l->all->options.most_nodes)
+	if (l->end.nodes > l->all->options.most_nodes || (uint32_t)result.number > l->all->options.most_nodes)
 		return state_refuse("the state has more files than --node-limit allows here");
-	error = restore_node(l, &told);
+	error = restore_node(l, &result);
 	if (error == EEXIST)
 		return state_refuse("a state with a number twice");
-	if (add_entry(l, told.number, -1, error))
+	if (add_entry(l, result.number, -1, error))
 		return -1;
 	if (!error)
 		return 0;
 	/* (no other node gets this number, by which the client knows a file) */
-	if (node_lose(&l->all->nodes, told.number))
+	if (node_lose(&l->all->nodes, result.number))
 		return state_refuse("out of memory");
 	/* (the 0 after the body ends the name) */
-	return lose(l, "node", told.number, (char *)l->body + ((const unsigned char *)told.name - l->body),
-		    error);
+	return lose(l, "node", result.number,
+		    (char *)l->body + ((const unsigned char *)result.name - l->body), error);
 }
 
 /* ---- open files */
@@ -337,21 +339,21 @@ static int open_as(struct loading *l, const struct node *node, int of, int flags
 }
 
 /* Opens and enters an open file: 0, or an error. A descriptor is reserved before it is opened, as for an OPEN. */
-static int restore_file(struct loading *l, const struct state_file *told)
+static int restore_file(struct loading *l, const struct state_file *result)
 {
 	struct nodes *nodes = &l->all->nodes;
 	struct grip grip;
-	int fd = -1, error = node_get(nodes, told->node, &grip);
+	int fd = -1, error = node_get(nodes, result->node, &grip);
 
 	if (error)
 		return error;
 	error = fd_reserve(nodes, 1);
-	if (!error && (fd = open_as(l, grip.node, grip.fd, (int)told->flags)) < 0) {
+	if (!error && (fd = open_as(l, grip.node, grip.fd, (int)result->flags)) < 0) {
 		error = errno;
 		fd_give_back(nodes, 1);
 	}
 	node_put(&grip);
-	if (fd >= 0 && (error = file_restore(nodes, told->node, fd, (int)told->flags, told->number)))
+	if (fd >= 0 && (error = file_restore(nodes, result->node, fd, (int)result->flags, result->number)))
 		fd_let_go(nodes, fd);
 	return error;
 }
@@ -359,23 +361,23 @@ static int restore_file(struct loading *l, const struct state_file *told)
 /* A FILE, whose node came before. */
 static int load_file(struct loading *l)
 {
-	struct state_file told;
+	struct state_file result;
 	char no_name[] = "";
 	int error;
 
-	if (!state_decode_file(l->body, l->len, &told))
+	if (!state_decode_file(l->body, l->len, &result))
 		return state_refuse("a state with an open file that cannot be");
 	if (l->has_no_session)
 		return state_refuse("a state with open files, of a client that has no session");
 	l->end.files++;
-	error = restore_file(l, &told);
+	error = restore_file(l, &result);
 	if (error == EEXIST)
 		return state_refuse("a state with the number of an open file twice");
 	if (!error)
 		return 0;
-	if (file_lose(&l->all->nodes, told.number))
+	if (file_lose(&l->all->nodes, result.number))
 		return state_refuse("out of memory");
-	return lose(l, "open file", told.number, no_name, error);
+	return lose(l, "open file", result.number, no_name, error);
 }
 
 /* ---- all of it */
@@ -383,13 +385,13 @@ static int load_file(struct loading *l)
 /* Compares the end with what came. */
 static int load_end(struct loading *l)
 {
-	struct state_end told;
+	struct state_end result;
 	char more;
 
-	if (!state_decode_end(l->body, l->len, &told))
+	if (!state_decode_end(l->body, l->len, &result))
 		return state_refuse("a state with an end that cannot be");
-	if (!l->count || told.nodes != l->end.nodes || told.files != l->end.files ||
-	    told.sum != l->sum_before)
+	if (!l->count || result.nodes != l->end.nodes || result.files != l->end.files ||
+	    result.sum != l->sum_before)
 		return state_refuse("the state is damaged");
 	return transport_get_state(l->from, &more, 1) ? state_refuse("the state goes on after its end") : 0;
 }

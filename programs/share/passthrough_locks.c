@@ -87,10 +87,10 @@ static uint32_t pid_of(struct locks *all, const nizwarf_call *asked, const struc
  * own description of the file, which never has any. */
 int get_lock(const struct call *call)
 {
-	const nizwarf_lock asked = nizwarf_lock_asked(call->asked);
+	const nizwarf_lock asked = nizwarf_lock_of(call->asked);
 	const struct range range = range_of(&asked);
 	struct flock host = to_host(&range);
-	nizwarf_lock told = asked;
+	nizwarf_lock result = asked;
 	struct holder *h;
 	int error;
 
@@ -107,16 +107,16 @@ int get_lock(const struct call *call)
 	}
 	if (error)
 		return error;
-	told.type = F_UNLCK;
+	result.type = F_UNLCK;
 	if (host.l_type != F_UNLCK) {
 		const struct range found = from_host(&host);
 
-		told = (nizwarf_lock){ found.first, found.last, found.type,
-				       pid_of(call->all->locks, call->asked, &found) };
+		result = (nizwarf_lock){ found.first, found.last, found.type,
+					 pid_of(call->all->locks, call->asked, &found) };
 	}
-	memcpy(call->worker->text, &told, sizeof(told));
+	memcpy(call->worker->text, &result, sizeof(result));
 	call->answer->text = (const uint8_t *)call->worker->text;
-	call->answer->text_len = sizeof(told);
+	call->answer->text_len = sizeof(result);
 	return 0;
 }
 
@@ -125,7 +125,7 @@ int get_lock(const struct call *call)
 /* Whether a lock of a holder is in the way of a waiter of another owner. */
 static bool is_in_the_way(const struct holder *h, const struct waiter *w)
 {
-	const nizwarf_lock lock = nizwarf_lock_asked(&w->asked);
+	const nizwarf_lock lock = nizwarf_lock_of(&w->asked);
 	const struct range wanted = range_of(&lock);
 
 	if (h->node != w->holder->node || h->owner == w->holder->owner)
@@ -208,19 +208,19 @@ static void finish(struct waiter *w, int error)
 	struct locks *all = w->of;
 	const nizwarf_session session = { w->asked.options, 4096, TRANSPORT_PAYLOAD };
 	uint8_t reply[HEADER];
-	const nizwarf_room room = { reply, sizeof(reply) };
-	nizwarf_answer answer = NIZWARF_NO_ANSWER;
-	nizwarf_told told;
+	const struct iovec room = { reply, sizeof(reply) };
+	nizwarf_answer answer = NIZWARF_ANSWER_INIT;
+	nizwarf_result result;
 	int32_t code;
 
 	answer.error = error;
 	/* (the reply is a header, and has as much room as that) */
-	w->asked.room = sizeof(reply);
+	w->asked.reply_size = sizeof(reply);
 	pthread_mutex_lock(&all->replying);
-	code = nizwarf_reply(&all->slot, &session, &w->asked, &answer, &room, 1, &told);
+	code = nizwarf_encode(&all->slot, &session, &w->asked, &answer, &room, 1, &result);
 	for (int i = 0; i < TRIES && code == NIZWARF_OUT_OF_MEMORY; i++) {
 		let_pass();
-		code = nizwarf_reply(&all->slot, &session, &w->asked, &answer, &room, 1, &told);
+		code = nizwarf_encode(&all->slot, &session, &w->asked, &answer, &room, 1, &result);
 	}
 	pthread_mutex_unlock(&all->replying);
 	pthread_mutex_lock(&all->lock);
@@ -231,7 +231,7 @@ static void finish(struct waiter *w, int error)
 	if (w->holder)
 		holder_put(all, w->holder);
 	file_put(w->file);
-	transport_complete(w->later, code, reply, told.len);
+	transport_complete(w->later, code, reply, result.len);
 	free(w);
 	pthread_mutex_lock(&all->lock);
 	all->waiting--;
@@ -242,7 +242,7 @@ static void finish(struct waiter *w, int error)
  * client gave it up meanwhile, and it isn't free any more. */
 static int wait_once(const struct waiter *w)
 {
-	const nizwarf_lock lock = nizwarf_lock_asked(&w->asked);
+	const nizwarf_lock lock = nizwarf_lock_of(&w->asked);
 	const struct range range = range_of(&lock);
 	int error;
 
@@ -378,7 +378,7 @@ static int set_flock(const struct call *call, uint32_t type)
 
 	if (error == EAGAIN && unlock_closed(call))
 		error = try_flock(call->file, owner, type);
-	return error == EAGAIN && call->asked->call == NIZWARF_SETLKW ? start_waiter(call, NULL) : error;
+	return error == EAGAIN && call->asked->opcode == NIZWARF_SETLKW ? start_waiter(call, NULL) : error;
 }
 
 /* A lock of fcntl(2), by the holder of its owner. Like Linux, it requires that the file is open for writing if the lock
@@ -403,7 +403,7 @@ static int set_range(const struct call *call, const nizwarf_lock *lock)
 	}
 	/* (to unlock all takes no memory, and so can't fail for want of it) */
 	error = is_all || holder_reserve(all, h, lock) ? try_range(all, h, lock) : ENOLCK;
-	if (error == EAGAIN && call->asked->call == NIZWARF_SETLKW)
+	if (error == EAGAIN && call->asked->opcode == NIZWARF_SETLKW)
 		error = start_waiter(call, h);
 	if (error != LOCK_WAITS)
 		holder_put(all, h);
@@ -414,13 +414,13 @@ static int set_range(const struct call *call, const nizwarf_lock *lock)
  * isn't free, and SETLK doesn't wait. EDEADLK: who has it waits for this owner. */
 int set_lock(const struct call *call)
 {
-	const nizwarf_lock lock = nizwarf_lock_asked(call->asked);
+	const nizwarf_lock lock = nizwarf_lock_of(call->asked);
 
 	if (lock.type != F_UNLCK && lock.type != F_RDLCK && lock.type != F_WRLCK)
 		return EINVAL;
 	if (call->file->is_directory)
 		return ENOLCK;
-	if (call->asked->has & NIZWARF_HAS_FLOCK)
+	if (call->asked->has & NIZWARF_LK_FLOCK)
 		return set_flock(call, lock.type);
 	return lock.start <= range_of(&lock).last ? set_range(call, &lock) : EINVAL;
 }
@@ -463,9 +463,9 @@ void locks_close(const struct call *call)
 {
 	const nizwarf_call *asked = call->asked;
 
-	if (asked->call == NIZWARF_FLUSH || asked->has & NIZWARF_FLUSHES)
+	if (asked->opcode == NIZWARF_FLUSH || asked->has & NIZWARF_RELEASE_FLUSH)
 		drop_each(call, false);
-	if (asked->call == NIZWARF_RELEASE)
+	if (asked->opcode == NIZWARF_RELEASE)
 		drop_each(call, true);
 }
 
@@ -562,7 +562,7 @@ bool locks_free(struct locks *all)
 	locks_forget_all(all, client);
 	if (!end_waiting(all, client))
 		return false;
-	nizwarf_end_slot(&all->slot);
+	nizwarf_scratch_free(&all->slot);
 	free(all);
 	return true;
 }

@@ -50,12 +50,12 @@ static struct statx made_by(const struct call *call)
 	const nizwarf_call *asked = call->asked;
 	const unsigned type = asked->mode & S_IFMT;
 
-	if (asked->call == NIZWARF_SYMLINK)
+	if (asked->opcode == NIZWARF_SYMLINK)
 		return (struct statx){ .stx_mode = S_IFLNK,
 				       .stx_size = strlen(name_of(call, nizwarf_symlink_text(asked))) };
-	return (struct statx){ .stx_mode = (uint16_t)(asked->call == NIZWARF_MKDIR ? S_IFDIR :
-						      type			   ? type :
-										     S_IFREG) };
+	return (struct statx){ .stx_mode = (uint16_t)(asked->opcode == NIZWARF_MKDIR ? S_IFDIR :
+						      type			     ? type :
+										       S_IFREG) };
 }
 
 /* By the name, as what was made is not open. A file that took the name meanwhile gets the label, which
@@ -105,9 +105,9 @@ int make_node(const struct call *call)
 	error = become(call);
 	if (error)
 		;
-	else if (asked->call == NIZWARF_MKDIR)
+	else if (asked->opcode == NIZWARF_MKDIR)
 		error = failed(mkdirat(directory, name, asked->mode & 07777));
-	else if (asked->call == NIZWARF_MKNOD)
+	else if (asked->opcode == NIZWARF_MKNOD)
 		error = failed(mknodat(directory, name, asked->mode, asked->rdev));
 	else
 		error = failed(symlinkat(name_of(call, nizwarf_symlink_text(asked)), directory, name));

@@ -15,7 +15,7 @@ enum { LOW_BITS = 48, PREFIXES = 65536, HEADS = 1024 };
 /* A device with upper bits that its numbers have, and what they are told as. */
 struct prefix {
 	uint64_t device;
-	uint16_t high, told;
+	uint16_t high, result;
 	/* The next one in its chain, counted from 1. */
 	uint32_t next;
 };
@@ -71,7 +71,7 @@ static int find(const struct numbers *all, uint64_t device, uint16_t high)
 
 	while (at && (all->known[at - 1].device != device || all->known[at - 1].high != high))
 		at = all->known[at - 1].next;
-	return at ? all->known[at - 1].told : -1;
+	return at ? all->known[at - 1].result : -1;
 }
 
 /* Finds upper bits for these, under the lock. -1: all are taken. */
@@ -79,39 +79,39 @@ static int add(struct numbers *all, uint64_t device, uint16_t high)
 {
 	uint32_t *head = &all->heads[mix_both(device, high) % HEADS];
 	/* (the uppermost one makes a number negative to programs that take it for a signed one) */
-	uint16_t told = device == all->own ? high : (uint16_t)(mix_both(device, high) >> LOW_BITS & 0x7fff);
+	uint16_t result = device == all->own ? high : (uint16_t)(mix_both(device, high) >> LOW_BITS & 0x7fff);
 
 	/* One is the folder's own. */
 	if (all->count >= PREFIXES - 1)
 		return -1;
 	/* (it ends: fewer than PREFIXES are taken) */
-	while (all->is_taken[told])
-		told++;
-	all->is_taken[told] = true;
-	all->known[all->count] = (struct prefix){ device, high, told, *head };
+	while (all->is_taken[result])
+		result++;
+	all->is_taken[result] = true;
+	all->known[all->count] = (struct prefix){ device, high, result, *head };
 	*head = ++all->count;
-	return told;
+	return result;
 }
 
 uint64_t numbers_tell(struct numbers *all, uint64_t device, uint64_t inode)
 {
 	const uint16_t high = (uint16_t)(inode >> LOW_BITS);
-	int told;
+	int result;
 
 	if (device == all->own && !high)
 		return inode;
 	pthread_rwlock_rdlock(&all->lock);
-	told = find(all, device, high);
+	result = find(all, device, high);
 	pthread_rwlock_unlock(&all->lock);
-	if (told < 0) {
+	if (result < 0) {
 		pthread_rwlock_wrlock(&all->lock);
 		/* (another thread may have added it between the two locks) */
-		told = find(all, device, high);
-		if (told < 0)
-			told = add(all, device, high);
+		result = find(all, device, high);
+		if (result < 0)
+			result = add(all, device, high);
 		pthread_rwlock_unlock(&all->lock);
 	}
-	if (told < 0)
+	if (result < 0)
 		return mix_both(device, inode);
-	return (uint64_t)told << LOW_BITS | (inode & ((UINT64_C(1) << LOW_BITS) - 1));
+	return (uint64_t)result << LOW_BITS | (inode & ((UINT64_C(1) << LOW_BITS) - 1));
 }

@@ -76,14 +76,14 @@ bool is_in(int directory, const char *name, const struct statx *seen)
 
 ssize_t find_path(const struct paths *paths, int fd, const struct statx *seen, char *path)
 {
-	char told[PATH_MAX];
-	ssize_t len = readlinkat(paths->nodes->proc, name_fd(fd).bytes, told, sizeof(told));
+	char result[PATH_MAX];
+	ssize_t len = readlinkat(paths->nodes->proc, name_fd(fd).bytes, result, sizeof(result));
 
-	if (len <= 0 || (size_t)len >= sizeof(told) || (size_t)len <= paths->len + 1 ||
-	    memcmp(told, paths->folder, paths->len) != 0 || told[paths->len] != '/')
+	if (len <= 0 || (size_t)len >= sizeof(result) || (size_t)len <= paths->len + 1 ||
+	    memcmp(result, paths->folder, paths->len) != 0 || result[paths->len] != '/')
 		return -1;
 	len -= (ssize_t)paths->len + 1;
-	memcpy(path, told + paths->len + 1, (size_t)len);
+	memcpy(path, result + paths->len + 1, (size_t)len);
 	path[len] = 0;
 	/* (A deleted file is shown by a name that is not there, and one that was moved meanwhile by its old name. Symbolic
 	 * links on the way are followed, which does no harm: the file is only looked at, and open_below() follows none.) */

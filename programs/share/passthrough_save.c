@@ -151,32 +151,32 @@ static int note_entry(struct saving *s, uint64_t number)
 static int put_node(struct saving *s, const struct node *node, int fd, struct place place)
 {
 	const bool by_handles = is_by_handles(s), is_root = node->counted.number == ROOT_NODE;
-	struct state_node told = { .number = node->counted.number,
-				   .lookups = atomic_load(&node->lookups),
-				   .parent = NOWHERE,
-				   .type = node->type,
-				   .mount = by_handles ? mount_number(s, node->on) : 0,
-				   .is_apart = node->is_apart };
+	struct state_node result = { .number = node->counted.number,
+				     .lookups = atomic_load(&node->lookups),
+				     .parent = NOWHERE,
+				     .type = node->type,
+				     .mount = by_handles ? mount_number(s, node->on) : 0,
+				     .is_apart = node->is_apart };
 	union handle_room room;
-	bool has_handle = has_handles(s) && fd >= 0 && told.mount < MOST_MOUNTS && handle_by(fd, &room);
+	bool has_handle = has_handles(s) && fd >= 0 && result.mount < MOST_MOUNTS && handle_by(fd, &room);
 
 	/* By paths a handle without a place is of no use, and neither is a place without the handle that verifies it. */
 	has_handle &= by_handles || is_root || place.parent != NOWHERE;
 	if (has_handle) {
-		told.handle_type = room.handle.handle_type;
-		told.handle_size = (uint8_t)room.handle.handle_bytes;
-		told.handle = room.handle.f_handle;
+		result.handle_type = room.handle.handle_type;
+		result.handle_size = (uint8_t)room.handle.handle_bytes;
+		result.handle = room.handle.f_handle;
 	}
 	if (has_handle || !has_handles(s)) {
-		told.parent = place.parent;
-		told.name = place.name;
-		told.name_len = strlen(place.name);
+		result.parent = place.parent;
+		result.name = place.name;
+		result.name_len = strlen(place.name);
 	}
-	if (note_entry(s, told.number))
+	if (note_entry(s, result.number))
 		return -1;
 	s->end.nodes++;
-	s->lost += !is_root && !has_handle && told.parent == NOWHERE;
-	return put_record(s, STATE_NODE, state_encode_node(&told, s->record + STATE_RECORD));
+	s->lost += !is_root && !has_handle && result.parent == NOWHERE;
+	return put_record(s, STATE_NODE, state_encode_node(&result, s->record + STATE_RECORD));
 }
 
 /* ---- directories that the client does not know */
@@ -220,7 +220,7 @@ static int grow_ancestors(struct saving *s)
  * directories could cause. (Linux's keeps those above what it knows.) */
 static int put_directory(struct saving *s, struct place place, const struct file_id *id, uint32_t *entry)
 {
-	const struct state_directory told = { place.parent, place.name, strlen(place.name) };
+	const struct state_directory result = { place.parent, place.name, strlen(place.name) };
 	struct ancestor *one;
 
 	*entry = NOWHERE;
@@ -235,7 +235,7 @@ static int put_directory(struct saving *s, struct place place, const struct file
 			return 0;
 		*one = (struct ancestor){ *id, s->entries++ };
 		s->ancestor_count++;
-		if (put_record(s, STATE_DIRECTORY, state_encode_directory(&told, s->record + STATE_RECORD)))
+		if (put_record(s, STATE_DIRECTORY, state_encode_directory(&result, s->record + STATE_RECORD)))
 			return -1;
 	}
 	*entry = one->entry;
@@ -639,17 +639,17 @@ static int save_files(struct saving *s)
 
 	while (!failed && (number = file_next(nodes, &place))) {
 		struct open_file *file = file_get(nodes, number);
-		struct state_file told = { .number = number };
+		struct state_file result = { .number = number };
 		int flags;
 
 		if (!file)
 			continue;
 		flags = fcntl(file->counted.fd, F_GETFL);
-		told.node = file->node;
-		told.flags = (uint32_t)(flags & ~O_DIRECTORY) | (file->is_directory ? O_DIRECTORY : 0);
+		result.node = file->node;
+		result.flags = (uint32_t)(flags & ~O_DIRECTORY) | (file->is_directory ? O_DIRECTORY : 0);
 		failed = flags < 0 ? state_refuse("an open file: %s", strerror(errno)) :
 				     put_record(s, STATE_FILE,
-						state_encode_file(&told, s->record + STATE_RECORD));
+						state_encode_file(&result, s->record + STATE_RECORD));
 		s->end.files++;
 		file_put(file);
 	}

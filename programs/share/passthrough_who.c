@@ -70,7 +70,7 @@ int become(const struct call *call)
 {
 	const nizwarf_call *asked = call->asked;
 	const struct worker *w = call->worker;
-	const uint64_t left = asked->call == NIZWARF_RENAME ? UINT64_MAX : UINT64_C(1) << CAP_DAC_OVERRIDE;
+	const uint64_t left = asked->opcode == NIZWARF_RENAME ? UINT64_MAX : UINT64_C(1) << CAP_DAC_OVERRIDE;
 	struct who who;
 	const int error = find_who(call, &who);
 
@@ -113,7 +113,7 @@ void become_root(const struct call *call)
 
 bool sets_nothing(const nizwarf_call *asked)
 {
-	return asked->call == NIZWARF_SETATTR &&
+	return asked->opcode == NIZWARF_SETATTR &&
 	       !(nizwarf_setattr_fields(asked) &
 		 (FATTR_MODE | FATTR_UID | FATTR_GID | FATTR_SIZE | FATTR_ATIME | FATTR_MTIME));
 }
@@ -135,7 +135,7 @@ static bool kills_untold(const struct call *call)
 {
 	const nizwarf_call *asked = call->asked;
 
-	switch (asked->call) {
+	switch (asked->opcode) {
 	case NIZWARF_OPEN:
 		return asked->flags & O_TRUNC && asked->uid && takes_bits_itself(call);
 	case NIZWARF_FALLOCATE:
@@ -153,9 +153,9 @@ static bool kills(const struct call *call)
 	const nizwarf_call *asked = call->asked;
 
 	return call->worker->is_root &&
-	       (asked->has & NIZWARF_KILL_PRIV || kills_untold(call) ||
-		(asked->call == NIZWARF_SETATTR && nizwarf_setattr_fields(asked) & FATTR_KILL_SUIDGID) ||
-		(asked->call == NIZWARF_SETXATTR && nizwarf_setxattr_more_flags(asked) & CLEARS_GROUP));
+	       (asked->has & NIZWARF_KILL_SUIDGID || kills_untold(call) ||
+		(asked->opcode == NIZWARF_SETATTR && nizwarf_setattr_fields(asked) & FATTR_KILL_SUIDGID) ||
+		(asked->opcode == NIZWARF_SETXATTR && nizwarf_setxattr_ext_flags(asked) & CLEARS_GROUP));
 }
 
 void lose_fsetid(const struct call *call)

@@ -140,7 +140,7 @@ static int go_to_background(void)
 {
 	int ends[2];
 	pid_t child;
-	char told = 1;
+	char result = 1;
 
 	if (pipe2(ends, O_CLOEXEC))
 		return failed("pipe");
@@ -151,7 +151,7 @@ static int go_to_background(void)
 		close(ends[1]);
 		pass_signals(child);
 		transport_hold_signals(SIG_UNBLOCK);
-		_exit(read(ends[0], &told, 1) == 1 ? 0 : 1);
+		_exit(read(ends[0], &result, 1) == 1 ? 0 : 1);
 	}
 	close(ends[0]);
 	/* (so no terminal's signal is for it) */
@@ -188,14 +188,14 @@ static void tell_manager(void)
 	static const char ready[] = "READY=1\n";
 	const sigset_t ending = transport_hold_signals(SIG_BLOCK);
 	struct pollfd wait[] = { { signalfd(-1, &ending, SFD_CLOEXEC), POLLIN, 0 }, { manager, POLLOUT, 0 } };
-	ssize_t told;
+	ssize_t result;
 
 	/* (its socket holds some messages, and who is to take them may wait itself) */
 	do
-		told = send(manager, ready, sizeof(ready) - 1, MSG_NOSIGNAL | MSG_DONTWAIT);
-	while (told < 0 && errno == EAGAIN && poll(wait, 2, wait[0].fd < 0 ? GUARD_MOST : -1) > 0 &&
+		result = send(manager, ready, sizeof(ready) - 1, MSG_NOSIGNAL | MSG_DONTWAIT);
+	while (result < 0 && errno == EAGAIN && poll(wait, 2, wait[0].fd < 0 ? GUARD_MOST : -1) > 0 &&
 	       !wait[0].revents);
-	if (told < 0)
+	if (result < 0)
 		failed("NOTIFY_SOCKET");
 	if (wait[0].fd >= 0)
 		close(wait[0].fd);

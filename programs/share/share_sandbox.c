@@ -50,9 +50,9 @@ enum { MOUNT = 'm', READY = 'r' };
 int sandbox_mount(void)
 {
 	const char mounts = MOUNT;
-	char told;
+	char result;
 
-	return write(asks[1], &mounts, 1) == 1 && read(tells[0], &told, 1) == 1 ? 0 : -1;
+	return write(asks[1], &mounts, 1) == 1 && read(tells[0], &result, 1) == 1 ? 0 : -1;
 }
 
 void sandbox_ready(void)

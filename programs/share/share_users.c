@@ -84,12 +84,12 @@ static pid_t begin_outside(const int ends[2], const struct id_map *uids, const s
 	const pid_t of = getpid();
 	const bool by_uid = !is_own(uids, geteuid()), by_gid = !is_own(gids, getegid());
 	const pid_t child = fork();
-	char told;
+	char result;
 
 	if (child)
 		return child;
 	close(ends[1]);
-	_exit(read(ends[0], &told, 1) != 1 || (by_uid && !run("newuidmap", of, uids)) ||
+	_exit(read(ends[0], &result, 1) != 1 || (by_uid && !run("newuidmap", of, uids)) ||
 	      (by_gid && !run("newgidmap", of, gids)));
 }
 

@@ -142,7 +142,7 @@ static int answer_one(void)
 	ssize_t got;
 	unsigned count;
 	int fds[2];
-	int32_t told;
+	int32_t result;
 
 	do
 		got = recvmsg(BACKING_SOCKET, &message, MSG_CMSG_CLOEXEC);
@@ -154,9 +154,9 @@ static int answer_one(void)
 		return !count && close_number(asked.number);
 	if (count != 1)
 		return 0;
-	told = open_file(fds[0]);
+	result = open_file(fds[0]);
 	close(fds[0]);
-	return send(BACKING_SOCKET, &told, sizeof(told), MSG_NOSIGNAL) == sizeof(told);
+	return send(BACKING_SOCKET, &result, sizeof(result), MSG_NOSIGNAL) == sizeof(result);
 }
 
 /* The process, after fork(2): it has one thread. `limit` filters its system calls, and so comes last. */
@@ -233,15 +233,15 @@ static ssize_t send_asked(int socket, uint32_t number, const int *fd)
 
 int fuse_backing_open(int socket, int fd)
 {
-	int32_t told;
+	int32_t result;
 	ssize_t got;
 
 	if (send_asked(socket, 0, &fd) < 0)
 		return -EPIPE;
 	do
-		got = recv(socket, &told, sizeof(told), 0);
+		got = recv(socket, &result, sizeof(result), 0);
 	while (got < 0 && errno == EINTR);
-	return got != sizeof(told) || !told ? -EPIPE : told;
+	return got != sizeof(result) || !result ? -EPIPE : result;
 }
 
 int fuse_backing_close(int socket, int number)

@@ -169,8 +169,8 @@ size_t fuse_device_refuse(const transport *by, const struct fuse_in_header *aske
 	return sizeof(reply);
 }
 
-int32_t fuse_device_ask(struct device *of, unsigned worker, const nizwarf_segment *request, size_t segments,
-			const nizwarf_room *room, size_t rooms, size_t *len)
+int32_t fuse_device_ask(struct device *of, unsigned worker, const struct iovec *request, size_t segments,
+			const struct iovec *room, size_t rooms, size_t *len)
 {
 	atomic_uint *turn = &of->turns[worker].count;
 	int32_t code;
@@ -609,8 +609,8 @@ static void send_kept(void *about, int32_t code, const void *reply, size_t len)
 }
 
 /* Hands a request to `serve`, which may keep it. Answers whether it does. */
-static int ask(struct worker *w, const struct fuse_in_header *asked, const nizwarf_segment *request,
-	       const nizwarf_room *room, int32_t *code, size_t *len)
+static int ask(struct worker *w, const struct fuse_in_header *asked, const struct iovec *request,
+	       const struct iovec *room, int32_t *code, size_t *len)
 {
 	struct device *d = w->of;
 	/* (a request is answered by the descriptor that it was read by) */
@@ -665,10 +665,10 @@ static int is_end(int error)
 static enum outcome serve_one(struct worker *w, uint32_t *opcode)
 {
 	const ssize_t got = read_request(w);
-	const nizwarf_segment segment = { w->request, (size_t)got };
+	const struct iovec segment = { w->request, (size_t)got };
 	const transport *by = w->of->by;
 	struct fuse_in_header asked;
-	nizwarf_room room;
+	struct iovec room;
 	int is_kept, offered;
 	size_t len = 0;
 	int32_t code;
@@ -687,10 +687,10 @@ static enum outcome serve_one(struct worker *w, uint32_t *opcode)
 	*opcode = asked.opcode;
 	offered = asked.opcode == FUSE_INIT && by->ring && by->ring->is_offered(w->request, (size_t)got);
 	transport_withhold(by, w->request, (size_t)got);
-	room.len = fuse_device_room(&asked, w->request + sizeof(asked), (size_t)got - sizeof(asked));
+	room.iov_len = fuse_device_room(&asked, w->request + sizeof(asked), (size_t)got - sizeof(asked));
 	/* (the data of a READ begin at a page, as reading past the host's cache wants) */
-	room.at = w->reply = room.len > PAGE || asked.opcode == FUSE_READ ? w->room : w->page;
-	call_if_late(w, &asked, room.len);
+	room.iov_base = w->reply = room.iov_len > PAGE || asked.opcode == FUSE_READ ? w->room : w->page;
+	call_if_late(w, &asked, room.iov_len);
 	w->header.unique = asked.unique;
 	is_kept = ask(w, &asked, &segment, &room, &code, &len);
 	if (is_kept)

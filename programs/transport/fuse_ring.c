@@ -211,8 +211,8 @@ static ssize_t serve_request(struct worker *w, struct entry *e, const struct fus
 	};
 	unsigned char *payload = e->memory[1].iov_base, *front = payload - record - sizeof(*asked);
 	const size_t wanted = fuse_device_room(asked, e->header->record, record) - HEAD;
-	const nizwarf_segment request = { front, sizeof(*asked) + record + e->header->payload };
-	const nizwarf_room rooms[] = { { reply, HEAD },
+	const struct iovec request = { front, sizeof(*asked) + record + e->header->payload };
+	const struct iovec rooms[] = { { reply, HEAD },
 				       { payload, wanted < TRANSPORT_PAYLOAD ? wanted : TRANSPORT_PAYLOAD } };
 	size_t len = 0;
 	int32_t code;
@@ -220,7 +220,7 @@ static ssize_t serve_request(struct worker *w, struct entry *e, const struct fus
 	/* (there is a page before the payload, of which its header takes the first bytes) */
 	memcpy(front, asked, sizeof(*asked));
 	memcpy(front + sizeof(*asked), e->header->record, record);
-	count_bulk(w, asked, rooms[1].len);
+	count_bulk(w, asked, rooms[1].iov_len);
 	later_serve(&source);
 	code = fuse_device_ask(w->of->of, w->number, &request, 1, rooms, 2, &len);
 	later_serve(NULL);
@@ -259,9 +259,16 @@ static void replace(struct worker *w, unsigned queue)
 		put_command(w, &w->entries[w->count - 1], REGISTER);
 }
 
+/* Whether a request that failed with this error may succeed once files were forgotten: for space, a descriptor, or one
+ * more file that the client may know. */
+static int waits_for_forgets(int error)
+{
+	return error == ENOSPC || error == EMFILE || error == ENFILE;
+}
+
 /* Answers the request in an entry, or keeps both. 0, or -1: it said why.
  *
- * The space of a file that was removed is free once it was forgotten, which comes by read(2), and who has
+ * What a file that was removed takes is free once it was forgotten, which comes by read(2), and who has
  * removed it counts on that. So that is read before space is told, and before it is said that there is none. */
 static int answer(struct worker *w, struct entry *e)
 {
@@ -279,7 +286,7 @@ static int answer(struct worker *w, struct entry *e)
 	if (asked.opcode == FUSE_STATFS)
 		fuse_device_drain(w->of->of);
 	len = serve_request(w, e, &asked, record, &reply);
-	if (len == HEAD && reply.error == -ENOSPC) {
+	if (len == HEAD && waits_for_forgets(-reply.error)) {
 		fuse_device_drain(w->of->of);
 		len = serve_request(w, e, &asked, record, &reply);
 	}
@@ -606,7 +613,7 @@ static int start_each(struct fuse_rings *r)
 /* Whether the kernel's INIT offers it: from Linux 6.14 on, and if its switch fuse.enable_uring is on. */
 static int is_offered(const unsigned char *request, size_t len)
 {
-	return (nizwarf_init_offered_at(request, len) & TRANSPORT_OVER_IO_URING) != 0;
+	return (nizwarf_init_capable_at(request, len) & TRANSPORT_OVER_IO_URING) != 0;
 }
 
 /* Whether the payload is as long as what the kernel may ask for at once. */
@@ -628,7 +635,7 @@ static int has_room(const unsigned char *reply, size_t len)
  * and requests come by read(2). */
 static int start(struct fuse_rings *r, struct device *of, int over, unsigned char *reply, size_t len)
 {
-	const nizwarf_init_more more = { .want = TRANSPORT_OVER_IO_URING };
+	const nizwarf_init_params more = { .want = TRANSPORT_OVER_IO_URING };
 
 	r->of = of;
 	r->over = over;

@@ -35,8 +35,8 @@ void fuse_device_drain(struct device *of);
 int fuse_device_joins(pthread_t thread);
 
 /* Hands a request to `serve`, and counts those that are in hand. */
-int32_t fuse_device_ask(struct device *of, unsigned worker, const nizwarf_segment *request, size_t segments,
-			const nizwarf_room *room, size_t rooms, size_t *len);
+int32_t fuse_device_ask(struct device *of, unsigned worker, const struct iovec *request, size_t segments,
+			const struct iovec *room, size_t rooms, size_t *len);
 
 /* What both have, in fuse_device.c. The first answers the length of a reply to a request that was refused, 0
  * if none is awaited. The second: how much room a reply may want, at least that of a header; `record` is what

@@ -37,7 +37,7 @@ void later_serve(struct later_source *source)
 /* It is read after `serve` came back, on the same thread, so without the lock. */
 int later_keeps(const struct later_source *source, int32_t code)
 {
-	return code == NIZWARF_ASKED && source->is_kept;
+	return code == NIZWARF_CALL && source->is_kept;
 }
 
 /* Puts it first into the list. The lock is held. */

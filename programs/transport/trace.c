@@ -41,21 +41,21 @@ struct bytes {
 };
 
 /* The first `most` bytes of pieces, in one. NULL: there is no memory. Of no bytes it is not NULL. */
-static struct bytes gather(const nizwarf_segment *piece, size_t pieces, size_t most)
+static struct bytes gather(const struct iovec *piece, size_t pieces, size_t most)
 {
 	struct bytes all = { NULL, 0 };
 	size_t len = 0, i;
 
 	for (i = 0; i < pieces; i++)
-		len += piece[i].len;
+		len += piece[i].iov_len;
 	len = len < most ? len : most;
 	all.at = malloc(len ? len : 1);
 	if (!all.at)
 		return all;
 	for (i = 0; i < pieces && all.len < len; i++) {
-		const size_t part = piece[i].len < len - all.len ? piece[i].len : len - all.len;
+		const size_t part = piece[i].iov_len < len - all.len ? piece[i].iov_len : len - all.len;
 
-		memcpy(all.at + all.len, piece[i].at, part);
+		memcpy(all.at + all.len, piece[i].iov_base, part);
 		all.len += part;
 	}
 	return all;
@@ -92,11 +92,11 @@ static void print_reply(const struct bytes *request, const struct bytes *reply)
 	put_line(line);
 }
 
-/* The name of a code that is not NIZWARF_OK: one word, as nizwarf-decode reads no other. NIZWARF_ASKED refuses
- * nothing: the request was kept. The others say that a server or the door was used wrongly. */
+/* The name of a code that is not NIZWARF_OK: one word, as nizwarf-decode reads no other. NIZWARF_CALL refuses
+ * nothing: the request was kept. The others say that a server or the codec was used wrongly. */
 static const char *name_of(int32_t code)
 {
-	if (code == NIZWARF_ASKED)
+	if (code == NIZWARF_CALL)
 		return "AnsweredLater";
 	return code >= 1 && code <= NIZWARF_OUT_OF_MEMORY ? refusals[code - 1] : "WrongUse";
 }
@@ -180,17 +180,17 @@ static void agree(const struct bytes *request, const struct bytes *reply)
 
 /* Prints what came of a request. A reply is the first `len` bytes of the rooms, which are read here. Where
  * it was refused there is none. */
-static void tell(const struct bytes *request, const nizwarf_room *room, size_t rooms, int32_t code,
+static void tell(const struct bytes *request, const struct iovec *room, size_t rooms, int32_t code,
 		 size_t len)
 {
 	size_t space = 0;
-	nizwarf_segment *pieces = calloc(rooms ? rooms : 1, sizeof(*pieces));
+	struct iovec *pieces = calloc(rooms ? rooms : 1, sizeof(*pieces));
 	struct bytes reply = { NULL, 0 };
 
 	for (size_t i = 0; i < rooms; i++) {
 		if (pieces)
-			pieces[i] = (nizwarf_segment){ room[i].at, room[i].len };
-		space += room[i].len;
+			pieces[i] = (struct iovec){ room[i].iov_base, room[i].iov_len };
+		space += room[i].iov_len;
 	}
 	if (pieces)
 		reply = gather(pieces, rooms, code == NIZWARF_OK ? len : 0);
@@ -198,7 +198,7 @@ static void tell(const struct bytes *request, const nizwarf_room *room, size_t r
 		put_line(NULL);
 	else if (file)
 		record(request, space, code, &reply);
-	else if (code == NIZWARF_ASKED)
+	else if (code == NIZWARF_CALL)
 		fputs("-> answered later\n", stderr);
 	else if (code != NIZWARF_OK)
 		fprintf(stderr, "-> refused=%s\n", name_of(code));
@@ -213,8 +213,8 @@ static void tell(const struct bytes *request, const nizwarf_room *room, size_t r
 /* Called in place of the transport's function. The request is printed before that is called, so that one
  * that doesn't come back is seen. Without memory for a copy it is served all the same, and a line says that
  * there was none. */
-static int32_t serve(void *user, unsigned worker, const nizwarf_segment *request, size_t segments,
-		     const nizwarf_room *room, size_t rooms, size_t *len)
+static int32_t serve(void *user, unsigned worker, const struct iovec *request, size_t segments,
+		     const struct iovec *room, size_t rooms, size_t *len)
 {
 	struct bytes asked = gather(request, segments, SIZE_MAX);
 	int32_t code;

@@ -1,11 +1,11 @@
 /* Transports of requests: each takes requests, hands each to a function of yours, and completes it
  * with what that answers. fuse_device.c serves /dev/fuse, which fuse_mount.c mounts, vhost_user.c the
- * virtio-fs device of a virtual machine. The function calls what answers requests: nizwarf_message, a table of
- * nizwarf_ops.h, or a file system over the door of nizwarf.h.
+ * virtio-fs device of a virtual machine. The function calls what answers requests: nizwarf_server_handle, a table of
+ * nizwarf_ops.h, or a file system over the codec of nizwarf.h.
  *
  * Workers. Each is a thread of its own, which calls `begin` first, then `serve` for one request
  * after another, then `end`. So what may have one caller at a time, as a nizwarf_server, has one
- * worker or a lock; what is built on the door has any number of them, each with a slot. The thread
+ * worker or a lock; what is built on the codec has any number of them, each with a slot. The thread
  * that calls a transport waits for signals: SIGINT, SIGTERM and SIGHUP end it. They are blocked from where it is
  * mounted, or a socket is listened on, so that one which comes before it serves leaves neither.
  *
@@ -16,7 +16,7 @@
  * in memory of yours in both, to be copied. A machine's requests are copied into one segment, since it
  * may change its memory at any time. With `writes_in_place` the data of a WRITE are not: they come in
  * segments after the first, which has the header and the record. Nothing is to be believed of them
- * that is read twice; the door reads none of them. So it may be asked with one segment: there is
+ * that is read twice; the codec reads none of them. So it may be asked with one segment: there is
  * memory after the first one for all the request, of which nothing is told. */
 #ifndef TRANSPORT_H
 #define TRANSPORT_H
@@ -130,19 +130,20 @@ typedef struct {
 	/* May be NULL. A request doesn't come back, and all is to end: so nothing is freed, and the process
 	 * ends once this has removed what must not stay. */
 	void (*left)(void *user);
-	/* Answers a request as nizwarf_message does: a code, and in `*len`, which comes as 0, how many
-	 * bytes of the rooms are the reply. NIZWARF_ASKED: it was kept, by transport_keep. Over io_uring a
-	 * request whose reply is ENOSPC is served a second time, after the forgets that Linux sent before it,
-	 * since these may free space. So a request that fails with ENOSPC must have changed nothing, neither
-	 * the file system nor the second room, where the data of a WRITE lie. */
-	int32_t (*serve)(void *user, unsigned worker, const nizwarf_segment *request, size_t segments,
-			 const nizwarf_room *room, size_t rooms, size_t *len);
+	/* Answers a request as nizwarf_server_handle does: a code, and in `*len`, which comes as 0, how many
+	 * bytes of the rooms are the reply. NIZWARF_CALL: it was kept, by transport_keep. Over io_uring a
+	 * request whose reply is ENOSPC, EMFILE or ENFILE is served a second time, after the forgets that Linux
+	 * sent before it, because these may free space, descriptors and places for files. So a request that
+	 * fails with one of these must have changed nothing, neither the file system nor the second room, where
+	 * the data of a WRITE lie. */
+	int32_t (*serve)(void *user, unsigned worker, const struct iovec *request, size_t segments,
+			 const struct iovec *room, size_t rooms, size_t *len);
 } transport;
 
 /* A request that is answered later. */
 typedef struct transport_later transport_later;
 
-/* Takes the request that `serve` has now, on this thread, out of the worker's hands: `serve` answers NIZWARF_ASKED
+/* Takes the request that `serve` has now, on this thread, out of the worker's hands: `serve` answers NIZWARF_CALL
  * then, and the request is completed once, from any thread, perhaps before `serve` comes back. NULL: there is no
  * memory, or it can't be kept: while a machine pauses, or over io_uring as many are kept of that processor as may be
  * (`most_kept`), or in a machine those that are kept would take more than half of the queue, since each keeps its place

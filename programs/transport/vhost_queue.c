@@ -86,8 +86,8 @@ struct worker {
 	size_t len, copied, segments, rooms, room_len;
 	/* How many descriptors of the queue it takes: one, where they are in a table of its own. */
 	unsigned places;
-	nizwarf_segment segment[PIECES + 1];
-	nizwarf_room room[PIECES];
+	struct iovec segment[PIECES + 1];
+	struct iovec room[PIECES];
 	unsigned char request[LONGEST];
 };
 
@@ -171,11 +171,11 @@ static void mark_at(const struct guest *g, const void *at, size_t len)
 }
 
 /* Marks rooms wholly: what failed, or answered fewer bytes, may have written to any of them. */
-static void mark_rooms(const struct guest *g, const nizwarf_room *room, size_t rooms)
+static void mark_rooms(const struct guest *g, const struct iovec *room, size_t rooms)
 {
 	if (g->logs)
 		for (size_t i = 0; i < rooms; i++)
-			mark_at(g, room[i].at, room[i].len);
+			mark_at(g, room[i].iov_base, room[i].iov_len);
 }
 
 /* Marks bytes of a used ring: by the address that SET_VRING_ADDR gave with VHOST_VRING_F_LOG, which may be
@@ -240,12 +240,12 @@ static int add_request(struct worker *w, const unsigned char *at, size_t len)
 			memcpy(&opcode, w->request + OPCODE_END - sizeof(opcode), sizeof(opcode));
 	}
 	copy_up_to(w, opcode == OPCODE_WRITE ? WRITE_HEAD : LONGEST, &at, &len);
-	w->segment[0].len = w->copied;
+	w->segment[0].iov_len = w->copied;
 	if (!len)
 		return 0;
 	if (w->segments > PIECES)
 		return -1;
-	w->segment[w->segments++] = (nizwarf_segment){ at, len };
+	w->segment[w->segments++] = (struct iovec){ (void *)(uintptr_t)at, len };
 	return 0;
 }
 
@@ -260,7 +260,7 @@ static int add_piece(struct worker *w, unsigned char *at, const nizwarf_piece *p
 		return add_request(w, at, len);
 	if (w->rooms == PIECES)
 		return -1;
-	w->room[w->rooms++] = (nizwarf_room){ at, len };
+	w->room[w->rooms++] = (struct iovec){ (void *)(uintptr_t)at, len };
 	w->room_len += len;
 	return 0;
 }
@@ -280,7 +280,7 @@ static int take_chain(struct worker *w, const struct guest *g, const struct queu
 	w->len = w->copied = w->rooms = w->room_len = 0;
 	w->places = 0;
 	w->segments = 1;
-	w->segment[0] = (nizwarf_segment){ w->request, 0 };
+	w->segment[0] = (struct iovec){ w->request, 0 };
 	if (nizwarf_chain_begin_at(q->size, PIECES, head, &walk) != NIZWARF_CHAIN_MORE)
 		return -1;
 	do {
@@ -309,7 +309,7 @@ struct kept {
 	struct queue *q;
 	uint16_t head;
 	size_t rooms;
-	nizwarf_room room[KEPT_ROOMS];
+	struct iovec room[KEPT_ROOMS];
 };
 
 /* The answer to it, in a list of its queue. It is allocated by send_kept(), and freed by who gives the
@@ -563,10 +563,10 @@ static int serve_late(struct guest *g, struct queue *q)
 	if (!late)
 		return 0;
 	for (i = 0; i < late->kept.rooms && put < late->len; i++) {
-		const nizwarf_room *room = &late->kept.room[i];
-		const size_t part = late->len - put < room->len ? late->len - put : room->len;
+		const struct iovec *room = &late->kept.room[i];
+		const size_t part = late->len - put < room->iov_len ? late->len - put : room->iov_len;
 
-		memcpy(room->at, late->reply + put, part);
+		memcpy(room->iov_base, late->reply + put, part);
 		put += part;
 	}
 	outcomes[late->code >= 0 && late->code < OUTCOMES ? late->code : 0]++;
@@ -787,7 +787,7 @@ static void *ring_at(uint64_t address, uint64_t len, uintptr_t align)
 	unsigned char *at;
 	struct vhost_place place;
 
-	if (nizwarf_vhost_user_at(vhost_guest->told, vhost_guest->regions, address, len, &place))
+	if (nizwarf_vhost_user_at(vhost_guest->vhost_regions, vhost_guest->regions, address, len, &place))
 		return NULL;
 	at = vhost_guest->region[place.region].at + place.offset;
 	return (uintptr_t)at % align == 0 ? at : NULL;

@@ -63,7 +63,7 @@ struct guest {
 	struct queue queue[QUEUES];
 	struct region region[REGIONS];
 	/* The same as the front end told them, and as the guest has them, for the walk of chains. */
-	struct vhost_region told[REGIONS];
+	struct vhost_region vhost_regions[REGIONS];
 	nizwarf_region shared[REGIONS];
 	size_t regions;
 	/* Whether it is marked, and where. */

@@ -185,7 +185,7 @@ static enum outcome share_region(const struct vhost_region *shared, int descript
 		return wrong("a region that can't be mapped");
 	r->at = r->map + shared->offset;
 	vhost_guest->shared[vhost_guest->regions] = (nizwarf_region){ shared->guest, shared->size };
-	vhost_guest->told[vhost_guest->regions++] = *shared;
+	vhost_guest->vhost_regions[vhost_guest->regions++] = *shared;
 	return DONE;
 }
 

@@ -16,6 +16,7 @@
 #include <unistd.h>
 #include "guard.h"
 #include "heap.h"
+#include "nizwarf_tree.h"
 #include "trace.h"
 
 static const char usage[] =
@@ -25,19 +26,20 @@ static const char usage[] =
 	"and reply to standard error, or their bytes to a new FILE for nizwarf-decode.\n";
 
 /* The files: the worker's alone, from its begin to its end. With the process they are gone. */
-static nizwarf_server server = NIZWARF_NONE;
+static nizwarf_server server = NIZWARF_SERVER_INIT;
 
 /* A new server over new files. Not 0: it failed, and the transport ends. */
 static int begin(void *user, unsigned worker)
 {
-	nizwarf_settings settings = NIZWARF_SETTINGS;
+	nizwarf_server_config settings = NIZWARF_SERVER_CONFIG;
 	struct timespec now;
 
 	(void)user, (void)worker;
 	clock_gettime(CLOCK_REALTIME, &now);
 	settings.seconds = (uint64_t)now.tv_sec;
 	settings.nanoseconds = (uint32_t)now.tv_nsec;
-	if (nizwarf_new(&server, (uint32_t)sysconf(_SC_PAGESIZE), TRANSPORT_PAYLOAD, &settings) == NIZWARF_OK)
+	if (nizwarf_server_new(&server, (uint32_t)sysconf(_SC_PAGESIZE), TRANSPORT_PAYLOAD, &settings) ==
+	    NIZWARF_OK)
 		return 0;
 	fputs("nizwarf-vhost: the library: there is no server\n", stderr);
 	return 1;
@@ -46,13 +48,13 @@ static int begin(void *user, unsigned worker)
 static void end(void *user, unsigned worker)
 {
 	(void)user, (void)worker;
-	nizwarf_end(&server);
+	nizwarf_server_free(&server);
 }
 
 /* Answers a request in a guest's own memory. (The server reads the request once, and none of the reply: what a guest
  * changes meanwhile is its own loss. Requests are copied before.) */
-static int32_t serve(void *user, unsigned worker, const nizwarf_segment *request, size_t segments,
-		     const nizwarf_room *room, size_t rooms, size_t *len)
+static int32_t serve(void *user, unsigned worker, const struct iovec *request, size_t segments,
+		     const struct iovec *room, size_t rooms, size_t *len)
 {
 	struct timespec now;
 	int32_t code;
@@ -60,8 +62,8 @@ static int32_t serve(void *user, unsigned worker, const nizwarf_segment *request
 	(void)user, (void)worker;
 	clock_gettime(CLOCK_REALTIME, &now);
 	/* (a library asks no clock: what this request changes has this time) */
-	nizwarf_tell_time(&server, (uint64_t)now.tv_sec, (uint32_t)now.tv_nsec);
-	code = nizwarf_message(&server, request, segments, room, rooms, len);
+	nizwarf_server_set_time(&server, (uint64_t)now.tv_sec, (uint32_t)now.tv_nsec);
+	code = nizwarf_server_handle(&server, request, segments, room, rooms, len);
 	/* (on the only worker, so by one thread at a time) */
 	heap_look();
 	return code;

@@ -1,5 +1,5 @@
 #!/usr/bin/env python3
-"""Copies sources with annotations put in, which say what holds in their loops: annotations.txt.
+"""Copies sources and inserts annotations of their loops: annotations.txt.
 
 Usage: annotate.py ANNOTATIONS TO SOURCE.."""
 import re
@@ -33,7 +33,9 @@ def put_in(text, kind, where, body):
 
 
 def main():
-    """Copies each source with its annotations. A rule is a line FILE KIND WHERE, and its body below, indented by four."""
+    """Copies each source with its annotations.
+
+    A rule is a line FILE KIND WHERE, and below it its body, indented by four."""
     annotations, to, *sources = sys.argv[1:]
     with open(annotations, encoding="utf-8") as file:
         blocks = [block.strip("\n") for block in re.split(r"\n\n+", file.read())]

@@ -18,7 +18,7 @@ void copy_words(uint64_t *to, const unsigned char *from, size_t n);
 /*@ requires n % sizeof(*to) == 0;
     requires \valid(to + (0 .. n / sizeof(*to) - 1)) && \valid_read(from + (0 .. n / sizeof(*to) - 1));
     assigns to[0 .. n / sizeof(*to) - 1] \from from[0 .. n / sizeof(*to) - 1]; */
-void copy_rooms(nizwarf_room *to, const nizwarf_room *from, size_t n);
+void copy_rooms(struct iovec *to, const struct iovec *from, size_t n);
 /*@ requires \false;
     assigns \nothing; */
 void copy_else(void *to, const void *from, size_t n);

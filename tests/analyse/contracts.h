@@ -1,13 +1,13 @@
-/* What functions of vhost_queue.c are told to keep to: included after it. */
+/* What functions of vhost_queue.c must keep to: included after it. */
 #ifndef CONTRACTS_H
 #define CONTRACTS_H
 
-/* Eva takes a structure with a pointer for pointers alone, so it is told of each field. */
+/* Eva takes a structure with a pointer for pointers alone, so each field is named. */
 /* clang-format off */
 #ifdef OF_EVA
 #define ROOMS_FROM(w, g) \
-	.at \from g->region[0 .. REGIONS - 1].at; \
-	assigns w->room[0 .. PIECES - 1].len \from g->shared[0 .. REGIONS - 1].size
+	.iov_base \from g->region[0 .. REGIONS - 1].at; \
+	assigns w->room[0 .. PIECES - 1].iov_len \from g->shared[0 .. REGIONS - 1].size
 #else
 #define ROOMS_FROM(w, g) \from g->region[0 .. REGIONS - 1].at, g->shared[0 .. REGIONS - 1].size
 #endif

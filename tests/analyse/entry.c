@@ -1,5 +1,6 @@
-/* Where Eva begins: a worker that serves a queue, of any size, of a front end that tells any regions; a guest that
- * writes anything; requests that are answered with any code and any length, or kept and answered later. */
+/* Where Eva begins: a worker that serves a queue, of any size, of a front end that shares any regions; a
+ * guest that writes anything; requests that are answered with any code and any length, or kept and answered
+ * later. */
 #ifdef __FRAMAC__
 #include "vhost_queue.c"
 #include "later.c"
@@ -16,25 +17,26 @@ static struct guest front_end;
 static struct worker worker;
 static transport with;
 
-/* What is behind the transport, at its worst: while it has the request the front end may hang up; it may say any
- * length, of more than the room too; and what it kept it may complete before it comes back, with bytes or without. */
-static int32_t serve(void *user, unsigned number, const nizwarf_segment *request, size_t segments,
-		     const nizwarf_room *room, size_t rooms, size_t *len)
+/* The function that the transport calls, at its worst: the front end may disconnect while it has the
+ * request; it may return any length, also one above the size of the reply buffer; and it may complete a
+ * request that it has kept before it returns, with bytes or without. */
+static int32_t serve(void *user, unsigned number, const struct iovec *request, size_t request_count,
+		     const struct iovec *reply, size_t reply_count, size_t *len)
 {
-	static const unsigned char reply[4096];
+	static const unsigned char bytes[4096];
 	transport_later *kept;
 
-	(void)user, (void)number, (void)request, (void)segments, (void)room, (void)rooms;
+	(void)user, (void)number, (void)request, (void)request_count, (void)reply, (void)reply_count;
 	front_end.gone = any;
 	*len = Frama_C_unsigned_long_interval(0, LONGEST);
 	kept = any ? transport_keep() : NULL; /* NULL too, if it can't be kept */
 	if (!kept)
 		return any;
 	if (any)
-		transport_complete(kept, any, reply, sizeof(reply));
+		transport_complete(kept, any, bytes, sizeof(bytes));
 	else if (any)
-		transport_complete(kept, any, reply, 0);
-	return NIZWARF_ASKED;
+		transport_complete(kept, any, bytes, 0);
+	return NIZWARF_CALL;
 }
 
 /* (nothing that was kept has to be completed at once) */
@@ -43,17 +45,18 @@ static void recall(void *user)
 	(void)user;
 }
 
-/* Memory as vhost_user.c tells of it: regions that are not empty, each where it is mapped. */
+/* Memory as vhost_user.c sets it up: regions that are not empty, each where it is mapped. */
 static void share(struct guest *g)
 {
 	for (size_t i = 0; i < REGIONS; i++) {
-		/* (told is where the guest and the front end have it; their addresses are anything, and may be the
-		 * same) */
+		/* (`vhost_regions` says where the guest and the front end have it; their addresses are anything,
+		 * and may be the same) */
 		g->region[i] = (struct region){ memory[i] + Frama_C_unsigned_long_interval(0, SHARED - 1),
 						memory[i], SHARED };
-		g->told[i].size = g->shared[i].size = Frama_C_unsigned_long_interval(1, SHARED);
-		g->told[i].user = Frama_C_unsigned_long_interval(0, SIZE_MAX);
-		g->told[i].guest = g->shared[i].address = Frama_C_unsigned_long_interval(0, SIZE_MAX);
+		g->vhost_regions[i].size = g->shared[i].size = Frama_C_unsigned_long_interval(1, SHARED);
+		g->vhost_regions[i].user = Frama_C_unsigned_long_interval(0, SIZE_MAX);
+		g->vhost_regions[i].guest = g->shared[i].address =
+			Frama_C_unsigned_long_interval(0, SIZE_MAX);
 	}
 	g->regions = Frama_C_unsigned_long_interval(0, REGIONS);
 	g->logs = any;
@@ -62,8 +65,8 @@ static void share(struct guest *g)
 	g->log.event = Frama_C_interval(-1, 1000); /* a descriptor, or none */
 }
 
-/* A queue with any places, as the front end's numbers say: which are looked up in the regions. */
-static void tell_queue(struct queue *q)
+/* A queue with any places, as the front end's numbers say: these are looked up in the regions. */
+static void place_queue(struct queue *q)
 {
 	/* (the proved library lets no other size through) */
 	q->size = Frama_C_unsigned_int_interval(1, 32768);
@@ -100,7 +103,7 @@ int main(void)
 	pthread_mutex_init(&q->lock, NULL);
 	pthread_mutex_init(&guests, NULL);
 	share(&front_end);
-	tell_queue(q);
+	place_queue(q);
 	/* (a turn each: what is late, the next chain, its answer; the third begins with all that two can leave) */
 	for (int i = 0; i < 3; i++) {
 		front_end.gone = any;

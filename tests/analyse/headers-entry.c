@@ -1,5 +1,6 @@
-/* Where Eva begins: requests in any pieces, of any bytes, and rooms in any pieces, over a library that tells anything
- * that its contracts let it (crates/nizwarf_door/src, crates/nizwarf_tree/src), and a table of functions that answer anything. */
+/* Where Eva begins: requests in any pieces, of any bytes, and reply buffers in any pieces, over a library
+ * that returns anything that its contracts allow (crates/nizwarf_codec/src, crates/nizwarf_tree/src), and a
+ * table of functions that return anything. */
 #ifdef __FRAMAC__
 #include "__fc_builtin.h"
 #include <stddef.h>
@@ -17,10 +18,13 @@
 #define st_atimensec st_dev
 #define st_mtimensec st_dev
 #define st_ctimensec st_dev
-#include "nizwarf.h"
-#include "nizwarf_ops.h"
+#include "codec.c"
+#include "convert.c"
+#include "messages.c"
+#include "ops.c"
+#include "server.c"
 
-enum { PIECES = 3, LONGEST = 1 << 20 }; /* of a request or a room; and the bytes of each at most */
+enum { PIECES = 3, LONGEST = 1 << 20 }; /* of a request or a reply buffer; and the bytes of each at most */
 
 static volatile int any; /* each read is any number */
 
@@ -32,7 +36,7 @@ static volatile int any; /* each read is any number */
 
 static volatile uint8_t seen; /* where what is read goes, so that no read is left out */
 
-/* Reads the first byte and the last. What the header hands to the library may be empty, but is never NULL. */
+/* Reads the first byte and the last. Memory that is passed to the library may be empty, but is never NULL. */
 static void look_at(const uint8_t *at, size_t len)
 {
 	//@ assert given: at != \null;
@@ -53,7 +57,7 @@ static void look_at_text(const uint8_t *text, size_t len)
 }
 
 /* Names of a listing, each from its first byte to its last. (The library ends a name at its first 0.) */
-static void look_at_items(const nizwarf_item *items, size_t count)
+static void look_at_items(const nizwarf_dirent *items, size_t count)
 {
 	for (size_t i = 0; i < count; i++) {
 		//@ assert given: items[i].name != \null;
@@ -64,56 +68,61 @@ static void look_at_items(const nizwarf_item *items, size_t count)
 	}
 }
 
-/* Segments of no length too: the header lets them through as they are. */
-static void look_at_request(const nizwarf_segment *request, size_t segments)
+/* Pieces of no length too, because they are passed on as they are. */
+static void look_at_request(const struct iovec *request, size_t request_count)
 {
-	for (size_t i = 0; i < segments; i++)
-		look_at(request[i].at, request[i].len);
+	for (size_t i = 0; i < request_count; i++)
+		look_at(request[i].iov_base, request[i].iov_len);
 }
 
 /* Each code that the library has. */
 static int32_t any_code(void)
 {
-	return Frama_C_interval(NIZWARF_OK, NIZWARF_NOT_ASKED);
+	return Frama_C_interval(NIZWARF_OK, NIZWARF_BAD_CALL);
 }
 
-/* (what it hands in is cleared: so nothing of an earlier call is left where the library says nothing) */
-int32_t nizwarf_ask_at(nizwarf_slot *slot, const nizwarf_session *session, const nizwarf_segment *request,
-		       size_t segments, size_t room, nizwarf_call *call, nizwarf_told *told)
+/* Features change which calls are decoded, and here each may be. (The result is cleared before, so that
+ * nothing of an earlier call is left where the library sets nothing.) */
+int32_t nizwarf_decode_at(nizwarf_scratch *scratch, const nizwarf_session *session, uint32_t features,
+			  const struct iovec *request, size_t request_count, size_t reply_size,
+			  nizwarf_call *call, nizwarf_result *result)
 {
-	const uint64_t options = told->options;
+	const uint64_t options = result->options;
 
-	//@ assert nothing: call->call == 0 && told->len == 0 && told->put == 0 && told->interrupts == 0;
-	look_at_request(request, segments);
-	slot->at = &seen;
+	/*@ assert nothing: call->opcode == 0 && result->len == 0 && result->written == 0 &&
+	      result->interrupts == 0; */
+	look_at_request(request, request_count);
+	scratch->at = &seen;
 	ANY(*call);
 	if (any) {
-		told->len = told->put = ANY_LENGTH(room);
-		told->interrupts = ANY_LENGTH(UINT64_MAX);
+		result->len = result->written = ANY_LENGTH(reply_size);
+		result->interrupts = ANY_LENGTH(UINT64_MAX);
 		return any_code();
 	}
-	call->room = room;
-	return any ? NIZWARF_ASKED : any_code();
+	call->reply_size = reply_size;
+	return any ? NIZWARF_CALL : any_code();
 }
 
-/* Any length up to the room that was asked with, which the header holds against the rooms that it has now. */
-int32_t nizwarf_answer_at(nizwarf_slot *slot, const nizwarf_session *session, const nizwarf_call *call,
+/* Any length up to the size that the call was decoded with, which nizwarf_encode compares with the reply
+ * buffer. */
+int32_t nizwarf_encode_at(nizwarf_scratch *scratch, const nizwarf_session *session, const nizwarf_call *call,
 			  const nizwarf_answer *answer, const uint8_t *text, size_t text_len,
-			  const nizwarf_item *items, size_t items_len, nizwarf_told *told)
+			  const nizwarf_dirent *items, size_t items_len, nizwarf_result *result)
 {
-	//@ assert nothing: told->len == 0 && told->put == 0 && told->give_back == 0 && told->taken == 0;
+	/*@ assert nothing: result->len == 0 && result->written == 0 && result->forget == 0 &&
+	      result->entries == 0; */
 	look_at_text(text, text_len);
 	look_at_items(items, items_len);
 	seen = (uint8_t)(session->options + answer->count);
-	slot->at = &seen;
-	told->len = told->put = ANY_LENGTH(call->room);
-	told->options = ANY_LENGTH(UINT64_MAX);
-	told->give_back = ANY_LENGTH(UINT64_MAX);
-	told->taken = ANY_LENGTH(items_len);
+	scratch->at = &seen;
+	result->len = result->written = ANY_LENGTH(call->reply_size);
+	result->options = ANY_LENGTH(UINT64_MAX);
+	result->forget = ANY_LENGTH(UINT64_MAX);
+	result->entries = ANY_LENGTH(items_len);
 	return any_code();
 }
 
-/* Writes all of the memory, and tells any part of it. */
+/* Writes all of the memory, and returns any length up to its size. */
 static size_t fill(uint8_t *piece, size_t len)
 {
 	//@ assert given: piece != \null;
@@ -122,9 +131,9 @@ static size_t fill(uint8_t *piece, size_t len)
 	return ANY_LENGTH(len);
 }
 
-uint64_t nizwarf_init_offered_at(const uint8_t *request, size_t len)
+uint64_t nizwarf_init_capable_at(const uint8_t *request, size_t len)
 {
-	/* (not by look_at, so that what Eva can't show of nizwarf_front is told by itself) */
+	/* (not by look_at, so that what Eva can't show of copy_front is apart) */
 	if (len)
 		seen = request[len - 1];
 	return ANY_LENGTH(UINT64_MAX);
@@ -141,32 +150,20 @@ uint64_t nizwarf_init_offered_at(const uint8_t *request, size_t len)
 /* A function of the library as a list of expressions: those that read and write, and at last its result. */
 #define FUNCTION(type, name, parameters, ...) type nizwarf_##name##_at parameters { return __VA_ARGS__; }
 
-/* What is offered changes which calls are decoded, and here each may be. */
-FUNCTION(int32_t, ask_offered,
-	 (nizwarf_slot *slot, const nizwarf_session *session, uint32_t offers, const nizwarf_segment *request,
-	  size_t segments, size_t room, nizwarf_call *call, nizwarf_told *told),
-	 nizwarf_ask_at(slot, session, request, segments, room, call, told))
-FUNCTION(int32_t, answer_offered,
-	 (nizwarf_slot *slot, const nizwarf_session *session, const nizwarf_call *call,
-	  const nizwarf_answer *answer, const uint8_t *text, size_t text_len, const nizwarf_item *items,
-	  size_t items_len, nizwarf_told *told),
-	 nizwarf_answer_at(slot, session, call, answer, text, text_len, items, items_len, told))
 FUNCTION(int32_t, check,
-	 (const nizwarf_session *session, REQUEST, size_t room, nizwarf_call *call, uint64_t *interrupts),
+	 (const nizwarf_session *session, uint32_t features, REQUEST, size_t reply_size, nizwarf_call *call,
+	  uint64_t *interrupts),
 	 look_at(request, len), seen = (uint8_t)session->options, ANY(*call),
 	 *interrupts = ANY_LENGTH(UINT64_MAX), any_code())
-FUNCTION(int32_t, check_offered,
-	 (const nizwarf_session *session, uint32_t offers, REQUEST, size_t room, nizwarf_call *call,
-	  uint64_t *interrupts),
-	 nizwarf_check_at(session, request, len, room, call, interrupts))
 /* Any number of bytes is copied, up to all. */
-FUNCTION(size_t, copy_slot, (nizwarf_slot *slot, size_t at, uint8_t *piece, size_t piece_len),
-	 slot->at = &seen, fill(piece, piece_len))
-/* A slot that was ended is empty, and may be used again. */
-FUNCTION(int32_t, end_slot, (nizwarf_slot *slot), slot->at = NULL, any_code())
+FUNCTION(size_t, scratch_copy, (nizwarf_scratch *scratch, size_t at, uint8_t *piece, size_t piece_len),
+	 scratch->at = &seen, fill(piece, piece_len))
+/* Scratch memory that was freed is empty, and may be used again. */
+FUNCTION(int32_t, scratch_free, (nizwarf_scratch *scratch), scratch->at = NULL, any_code())
 
 /* These change a reply where it is, in its own length. */
-FUNCTION(uint64_t, add_to_init, (uint8_t *reply, size_t len, uint64_t offered, const nizwarf_init_more *more),
+FUNCTION(uint64_t, add_to_init,
+	 (uint8_t *reply, size_t len, uint64_t offered, const nizwarf_init_params *more),
 	 fill(reply, len), more->want)
 FUNCTION(int32_t, add_backing, (uint8_t *reply, size_t len, int32_t id), fill(reply, len), any)
 
@@ -189,27 +186,30 @@ FUNCTION(size_t, notice_resend, (OUT), fill(out, size))
 FUNCTION(size_t, notice_inc_epoch, (OUT), fill(out, size))
 FUNCTION(size_t, notice_prune, (uint32_t count, OUT), fill(out, size))
 
-/* Of the server over a tree. A call of a server that was ended gets a code: `at` may be NULL before each. */
-FUNCTION(int32_t, new, (SERVER, uint32_t page_size, uint32_t max_buffer, const nizwarf_settings *settings),
+/* Of the server over a tree. A server that was freed may be passed to each: `at` may be NULL. */
+FUNCTION(int32_t, server_new,
+	 (SERVER, uint32_t page_size, uint32_t max_buffer, const nizwarf_server_config *settings),
 	 seen = (uint8_t)settings->nodes, server->at = &seen, any_code())
-FUNCTION(int32_t, tell_time, (SERVER, uint64_t seconds, uint32_t nanoseconds), server->at = &seen, any_code())
-FUNCTION(int32_t, message,
-	 (SERVER, const nizwarf_segment *request, size_t segments, size_t room, size_t *len),
-	 look_at_request(request, segments), server->at = &seen, *len = ANY_LENGTH(room), any_code())
-FUNCTION(size_t, copy, (SERVER, size_t at, uint8_t *piece, size_t piece_len),
+FUNCTION(int32_t, server_set_time, (SERVER, uint64_t seconds, uint32_t nanoseconds),
+	 server->at = &seen, any_code())
+FUNCTION(int32_t, server_handle,
+	 (SERVER, const struct iovec *request, size_t request_count, size_t reply_size, size_t *len),
+	 look_at_request(request, request_count), server->at = &seen, *len = ANY_LENGTH(reply_size),
+	 any_code())
+FUNCTION(size_t, server_copy, (SERVER, size_t at, uint8_t *piece, size_t piece_len),
 	 server->at = &seen, fill(piece, piece_len))
-/* A reply that was taken and ended is no longer the caller's to read. */
-FUNCTION(int32_t, end_taken, (nizwarf_taken *taken), taken->at = NULL, any_code())
-FUNCTION(uint64_t, options, (SERVER), server->at != NULL)
-FUNCTION(uint32_t, max_buffer, (SERVER), server->at != NULL)
-FUNCTION(int32_t, end, (SERVER), server->at = NULL, any_code())
+/* A reply that was taken and freed must not be read any more. */
+FUNCTION(int32_t, reply_buf_free, (nizwarf_reply_buf *taken), taken->at = NULL, any_code())
+FUNCTION(uint64_t, server_options, (SERVER), server->at != NULL)
+FUNCTION(uint32_t, server_max_buffer, (SERVER), server->at != NULL)
+FUNCTION(int32_t, server_free, (SERVER), server->at = NULL, any_code())
 
 #undef NAME
 /* clang-format on */
 
 static uint8_t taken_reply[LONGEST]; /* memory of the library */
 
-int32_t nizwarf_take_at(nizwarf_server *server, nizwarf_taken *taken, nizwarf_place *place)
+int32_t nizwarf_server_take_at(nizwarf_server *server, nizwarf_reply_buf *taken, nizwarf_reply_range *place)
 {
 	server->at = taken->at = &seen;
 	if (any)
@@ -222,23 +222,23 @@ int32_t nizwarf_take_at(nizwarf_server *server, nizwarf_taken *taken, nizwarf_pl
 
 /* ---- what is handed in */
 
-static uint8_t bytes[PIECES][LONGEST], memory[PIECES][LONGEST]; /* requests, and rooms */
+static uint8_t bytes[PIECES][LONGEST], memory[PIECES][LONGEST]; /* requests, and reply buffers */
 
 /* Pieces of any lengths, of which any may be NULL. */
-static void any_segments(nizwarf_segment *list)
+static void any_request(struct iovec *list)
 {
 	for (size_t i = 0; i < PIECES; i++)
-		list[i] = (nizwarf_segment){ any ? bytes[i] : NULL, ANY_LENGTH(LONGEST) };
+		list[i] = (struct iovec){ any ? bytes[i] : NULL, ANY_LENGTH(LONGEST) };
 }
 
-/* Rooms, each in memory of its own. */
-static void any_rooms(nizwarf_room *list)
+/* Pieces of a reply buffer, each in memory of its own. */
+static void any_reply(struct iovec *list)
 {
 	for (size_t i = 0; i < PIECES; i++)
-		list[i] = (nizwarf_room){ any ? memory[i] : NULL, ANY_LENGTH(LONGEST) };
+		list[i] = (struct iovec){ any ? memory[i] : NULL, ANY_LENGTH(LONGEST) };
 }
 
-static void any_items(nizwarf_item *items)
+static void any_items(nizwarf_dirent *items)
 {
 	for (size_t i = 0; i < PIECES; i++) {
 		ANY(items[i]);
@@ -253,30 +253,30 @@ static void any_items(nizwarf_item *items)
 #define OR_NULL(number, at) (gone == (number) ? NULL : (at))
 #define COUNTS for (size_t count = 0; count <= PIECES; count++)
 
-static void asks(void)
+static void decodes(void)
 {
-	nizwarf_slot slot = NIZWARF_NONE;
+	nizwarf_scratch scratch = NIZWARF_SCRATCH_INIT;
 	nizwarf_session session;
-	nizwarf_segment request[PIECES];
-	nizwarf_room room[PIECES];
+	struct iovec request[PIECES];
+	struct iovec reply[PIECES];
 	nizwarf_call call;
-	nizwarf_told told;
+	nizwarf_result result;
 
 	ANY(session);
 	ROUNDS(6) COUNTS
 	{
-		any_segments(request);
-		any_rooms(room);
+		any_request(request);
+		any_reply(reply);
 		ANY(call);
-		nizwarf_ask(OR_NULL(1, &slot), OR_NULL(2, &session), OR_NULL(3, request), count,
-			    OR_NULL(4, room), PIECES - count, OR_NULL(5, &call), OR_NULL(6, &told));
-		nizwarf_ask_offered(OR_NULL(1, &slot), OR_NULL(2, &session), (uint32_t)any,
-				    OR_NULL(3, request), count, OR_NULL(4, room), PIECES - count,
-				    OR_NULL(5, &call), OR_NULL(6, &told));
+		nizwarf_decode(OR_NULL(1, &scratch), OR_NULL(2, &session), 0, OR_NULL(3, request), count,
+			       OR_NULL(4, reply), PIECES - count, OR_NULL(5, &call), OR_NULL(6, &result));
+		nizwarf_decode(OR_NULL(1, &scratch), OR_NULL(2, &session), (uint32_t)any, OR_NULL(3, request),
+			       count, OR_NULL(4, reply), PIECES - count, OR_NULL(5, &call),
+			       OR_NULL(6, &result));
 	}
-	nizwarf_end_slot(&slot);
-	/* (each function takes NULL, and says so by a code) */
-	nizwarf_end_slot(NULL);
+	nizwarf_scratch_free(&scratch);
+	/* (each function accepts NULL, and returns a code then) */
+	nizwarf_scratch_free(NULL);
 }
 
 /* A call of any number: up to that of INIT, it, and above. */
@@ -287,33 +287,33 @@ static uint32_t any_number(int range)
 			    Frama_C_unsigned_int_interval(NIZWARF_INIT + 1, UINT32_MAX);
 }
 
-static void replies(void)
+static void encodes(void)
 {
-	nizwarf_slot slot = NIZWARF_NONE;
+	nizwarf_scratch scratch = NIZWARF_SCRATCH_INIT;
 	nizwarf_session session;
-	nizwarf_room room[PIECES];
-	nizwarf_item items[PIECES];
+	struct iovec reply[PIECES];
+	nizwarf_dirent items[PIECES];
 	nizwarf_answer answer;
 	nizwarf_call call;
-	nizwarf_told told;
+	nizwarf_result result;
 
 	ANY(session);
-	/* (INIT apart from calls below and above it: by it alone options change, and Eva joins what it
-	 * does not tell apart) */
+	/* (INIT apart from calls below and above it: by it alone options change, and Eva joins states that it
+	 * does not keep apart) */
 	ROUNDS(8) COUNTS for (int range = 0; range < 3; range++)
 	{
-		any_rooms(room);
+		any_reply(reply);
 		any_items(items);
 		ANY(call);
 		ANY(answer);
-		call.call = any_number(range);
+		call.opcode = any_number(range);
 		answer.text = OR_NULL(7, bytes[1]);
-		/* (a text that is NULL has any length too: the header refuses it) */
+		/* (a text that is NULL has any length too: nizwarf_encode must refuse it) */
 		answer.text_len = count ? Frama_C_unsigned_long_interval(1, LONGEST) : 0;
 		answer.items = OR_NULL(8, items);
 		answer.items_len = count;
-		nizwarf_reply(OR_NULL(1, &slot), OR_NULL(2, &session), OR_NULL(3, &call), OR_NULL(4, &answer),
-			      OR_NULL(5, room), PIECES - count, OR_NULL(6, &told));
+		nizwarf_encode(OR_NULL(1, &scratch), OR_NULL(2, &session), OR_NULL(3, &call),
+			       OR_NULL(4, &answer), OR_NULL(5, reply), PIECES - count, OR_NULL(6, &result));
 	}
 }
 
@@ -326,11 +326,10 @@ static void checks(void)
 	ANY(session);
 	ROUNDS(4)
 	{
-		nizwarf_check(OR_NULL(1, &session), OR_NULL(2, bytes[0]), ANY_LENGTH(LONGEST),
+		nizwarf_check(OR_NULL(1, &session), 0, OR_NULL(2, bytes[0]), ANY_LENGTH(LONGEST),
 			      ANY_LENGTH(SIZE_MAX), OR_NULL(3, &call), OR_NULL(4, &interrupts));
-		nizwarf_check_offered(OR_NULL(1, &session), (uint32_t)any, OR_NULL(2, bytes[0]),
-				      ANY_LENGTH(LONGEST), ANY_LENGTH(SIZE_MAX), OR_NULL(3, &call),
-				      OR_NULL(4, &interrupts));
+		nizwarf_check(OR_NULL(1, &session), (uint32_t)any, OR_NULL(2, bytes[0]), ANY_LENGTH(LONGEST),
+			      ANY_LENGTH(SIZE_MAX), OR_NULL(3, &call), OR_NULL(4, &interrupts));
 	}
 }
 
@@ -371,28 +370,29 @@ static void interrupts(void)
 /* A server, by each of its calls, and of each pointer once without it. */
 static void servers(void)
 {
-	nizwarf_server server = NIZWARF_NONE;
-	nizwarf_taken taken = NIZWARF_NONE;
-	nizwarf_settings settings = NIZWARF_SETTINGS;
-	nizwarf_segment request[PIECES];
-	nizwarf_room room[PIECES];
-	const void *reply;
+	nizwarf_server server = NIZWARF_SERVER_INIT;
+	nizwarf_reply_buf taken = NIZWARF_REPLY_BUF_INIT;
+	nizwarf_server_config settings = NIZWARF_SERVER_CONFIG;
+	struct iovec request[PIECES];
+	struct iovec reply[PIECES];
+	const void *taken_at;
 	size_t len;
 
 	ROUNDS(6) COUNTS
 	{
-		any_segments(request);
-		any_rooms(room);
-		nizwarf_new(OR_NULL(1, &server), (uint32_t)any, (uint32_t)any, OR_NULL(2, &settings));
-		nizwarf_tell_time(OR_NULL(1, &server), ANY_LENGTH(UINT64_MAX), (uint32_t)any);
-		nizwarf_message(OR_NULL(1, &server), OR_NULL(2, request), count, OR_NULL(3, room),
-				PIECES - count, OR_NULL(4, &len));
-		nizwarf_message_take(OR_NULL(1, &server), OR_NULL(2, request), count, ANY_LENGTH(LONGEST),
-				     OR_NULL(5, &taken), OR_NULL(6, &reply), OR_NULL(4, &len));
-		nizwarf_end_taken(OR_NULL(5, &taken));
-		nizwarf_options(OR_NULL(1, &server));
-		nizwarf_max_buffer(OR_NULL(1, &server));
-		nizwarf_end(OR_NULL(1, &server));
+		any_request(request);
+		any_reply(reply);
+		nizwarf_server_new(OR_NULL(1, &server), (uint32_t)any, (uint32_t)any, OR_NULL(2, &settings));
+		nizwarf_server_set_time(OR_NULL(1, &server), ANY_LENGTH(UINT64_MAX), (uint32_t)any);
+		nizwarf_server_handle(OR_NULL(1, &server), OR_NULL(2, request), count, OR_NULL(3, reply),
+				      PIECES - count, OR_NULL(4, &len));
+		nizwarf_server_handle_take(OR_NULL(1, &server), OR_NULL(2, request), count,
+					   ANY_LENGTH(LONGEST), OR_NULL(5, &taken), OR_NULL(6, &taken_at),
+					   OR_NULL(4, &len));
+		nizwarf_reply_buf_free(OR_NULL(5, &taken));
+		nizwarf_server_options(OR_NULL(1, &server));
+		nizwarf_server_max_buffer(OR_NULL(1, &server));
+		nizwarf_server_free(OR_NULL(1, &server));
 	}
 }
 
@@ -422,14 +422,14 @@ static void op_forget(const nizwarf_req *req, uint64_t ino, uint64_t nlookup)
 
 static void op_forget_multi(const nizwarf_req *req, size_t count, const nizwarf_forget *forgets)
 {
-	//@ assert some: 1 <= count <= NIZWARF_MOST_FORGETS;
+	//@ assert some: 1 <= count <= NIZWARF_MAX_FORGETS;
 	seen = (uint8_t)(forgets[0].ino + forgets[count - 1].nlookup);
 }
 
 /* A name of any length. */
 static char any_name[4096];
 
-/* Any number of items, of which the header takes as many as there is room for. */
+/* Any number of items, of which as many are taken as the reply buffer can hold. */
 static int op_readdir(const nizwarf_req *req, uint64_t ino, uint64_t off, const nizwarf_file_info *fi,
 		      nizwarf_dir *dir)
 {
@@ -457,7 +457,7 @@ static void op_interrupt(void *user, uint64_t unique)
 
 static void op_bad_error(void *user, const nizwarf_call *call, int error)
 {
-	seen = (uint8_t)call->call;
+	seen = (uint8_t)call->opcode;
 }
 
 static void op_retrieve_reply(const nizwarf_req *req, uint64_t cookie, uint64_t ino, uint64_t offset,
@@ -476,8 +476,8 @@ static void op_retrieve_reply(const nizwarf_req *req, uint64_t cookie, uint64_t 
 #define SEE(number) (seen = (uint8_t)(number))
 
 /* The other functions: the name, the parameters, and expressions, of which the last is the result. `init`
- * wants also options that the client does not offer, and `open` and `create` set fields that are no part of
- * an answer: the header must ignore these. `write` and `copy_file_range` return more bytes than there were,
+ * wants also options that the client does not support, and `open` and `create` set fields that are no part of
+ * an answer: the library must ignore these. `write` and `copy_file_range` return more bytes than there were,
  * which it must not reply. */
 #define OPS(F) \
 	F(init, (const nizwarf_req *req, uint64_t capable, uint64_t *want), \
@@ -560,28 +560,28 @@ static nizwarf_ops any_table(void)
 static void tables(void)
 {
 	const nizwarf_ops ops = any_table();
-	nizwarf_slot slot = NIZWARF_NONE;
+	nizwarf_scratch scratch = NIZWARF_SCRATCH_INIT;
 	nizwarf_session session;
-	nizwarf_item items[PIECES];
-	nizwarf_answer answer = NIZWARF_NO_ANSWER;
+	nizwarf_dirent items[PIECES];
+	nizwarf_answer answer = NIZWARF_ANSWER_INIT;
 	nizwarf_call call;
 	size_t len;
 
 	ANY(session);
 	Frama_C_make_unknown(any_name, sizeof(any_name) - 1);
 	ROUNDS(4)
-	COUNTS nizwarf_serve_ops(&ops, NULL, OR_NULL(1, &slot), OR_NULL(2, &session), OR_NULL(3, bytes[0]),
+	COUNTS nizwarf_serve_ops(&ops, NULL, OR_NULL(1, &scratch), OR_NULL(2, &session), OR_NULL(3, bytes[0]),
 				 ANY_LENGTH(LONGEST), OR_NULL(4, memory[0]), ANY_LENGTH(LONGEST), items,
 				 count, &len);
 	ANY(call);
-	call.room = ANY_LENGTH(LONGEST);
+	call.reply_size = ANY_LENGTH(LONGEST);
 	answer.text = bytes[1];
 	answer.text_len = ANY_LENGTH(LONGEST);
 	answer.error = any;
 	answer.handle = ANY_LENGTH(UINT64_MAX);
 	answer.has_handle = (uint32_t)any;
-	/* (a call that was answered later, though it may never have been asked) */
-	nizwarf_finish_ops(&ops, NULL, &slot, &session, &call, &answer, memory[0], &len);
+	/* (a call that is answered later, though it may never have been decoded) */
+	nizwarf_finish_ops(&ops, NULL, &scratch, &session, &call, &answer, memory[0], &len);
 	nizwarf_end_ops(&ops, NULL, &session);
 }
 
@@ -603,19 +603,19 @@ static void fill_memory(void)
 	Frama_C_make_unknown((char *)memory, sizeof(memory));
 }
 
-/* nizwarf.h and nizwarf_tree.h. */
-void doors(void)
+/* lib/codec.c, lib/messages.c and lib/server.c. */
+void codecs(void)
 {
 	fill_memory();
-	asks();
-	replies();
+	decodes();
+	encodes();
 	checks();
 	texts();
 	interrupts();
 	servers();
 }
 
-/* nizwarf_ops.h. */
+/* lib/ops.c and lib/convert.c. */
 void ops(void)
 {
 	fill_memory();

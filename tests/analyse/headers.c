@@ -1,4 +1,4 @@
-/* What WP proves of the headers: that what is inline keeps to door.acsl, tree.acsl and table.acsl. */
+/* What WP proves of the C files of the library: that they keep to codec.acsl, tree.acsl and table.acsl. */
 #ifdef __FRAMAC__
 #include <stddef.h>
 #include <stdint.h>
@@ -34,7 +34,9 @@ uint64_t __atomic_exchange_n(uint64_t *at, uint64_t value, int order);
 #define st_ctimensec st_dev
 
 /* (the copies with annotations) */
-#include "nizwarf.h"
-#include "nizwarf_ops.h"
+#include "codec.c"
+#include "convert.c"
+#include "ops.c"
+#include "server.c"
 
 #endif

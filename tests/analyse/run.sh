@@ -1,35 +1,36 @@
 #!/usr/bin/env bash
 # Analyses C that is between a guest and the proved library by Frama-C: what walks a guest's queues
-# (programs/transport/vhost_queue.c, later.c), what is inline in the headers (include), and ids (passthrough_ids.c).
+# (programs/transport/vhost_queue.c, later.c), the C files of the library (lib), and ids (passthrough_ids.c).
 #
 # Usage: tests/analyse/run.sh
-# WP proves of functions, for requests, rooms and lists of any length, that they read and write nothing but what they are
-# given, come to an end, and keep to their contracts. Of the queues these are mark, copy_up_to, add_request, add_piece
-# and take_chain (contracts.h). Of the headers they are those with loops over pieces, and all that make a table's calls: names
-# and data that these are handed lie in the request, texts that they answer in the room (door.acsl, tree.acsl,
-# table.acsl). Eva looks for undefined behaviour: in a worker that serves a queue three turns long (entry.c), with any
-# regions and rings, any number that the guest writes, and any answer, now or later; in all of nizwarf.h and
-# nizwarf_tree.h, with any bytes in up to three pieces, and with each pointer NULL (doors, of headers-entry.c); in a table
-# whose functions answer anything, or are not there, for calls that tell anything (tables, the same); in ids by any rules
-# (ids-entry.c). An alarm, or a goal that isn't proved, is an error if known.txt doesn't have it with a reason; so is one
-# of those that is gone.
+# WP proves of functions, for requests, reply buffers and lists of any length, that they read and write nothing but
+# the memory that they are passed, come to an end, and keep to their contracts. Of the queues these are mark,
+# copy_up_to, add_request, add_piece and take_chain (contracts.h). Of the library they are those with loops over
+# pieces, and all that make a table's calls: names and data that they pass to these lie in the request, texts of an
+# answer in the reply buffer (codec.acsl, tree.acsl, table.acsl). Eva looks for undefined behaviour: in a worker that
+# serves a queue three turns long (entry.c), with any regions and rings, any number that the guest writes, and any
+# answer, now or later; in all of codec.c, messages.c and server.c, with any bytes in up to three pieces, and with
+# each pointer NULL (codecs, of headers-entry.c); in a table whose functions return anything, or are NULL, for calls
+# with any fields (tables, the same); in ids by any rules (ids-entry.c). An alarm, or a goal that isn't proved, is an
+# error if known.txt doesn't have it with a reason; so is one of those that is gone.
 #
-# Assumed: what the proved library answers, as specifications.h, the three .acsl and headers-entry.c say it again by
-# hand; what Frama-C says of the C library, and specifications.h of Linux; and that regions are mapped as vhost_user.c
-# tells. One thread runs, no kernel: a guest that writes meanwhile is any value at each atomic read, and any step of a
-# chain. Frama-C refuses _Atomic(T) and _Alignas, so they are left out, and it does not look at pointers that are
-# compared. WP's memory has types, by the hypotheses that it prints: it reads copies of the sources in which bytes are
-# told from records, and a table's function is called by its name (annotations.txt). Eva takes from the contract of
-# take_chain which memory its rooms are of, which WP does not prove. That a name's record is as long as the name is
-# assumed of nizwarf_record_size.
+# Assumed: the contracts of the proved library, as specifications.h, the three .acsl and headers-entry.c say them
+# again by hand; what Frama-C says of the C library, and specifications.h of Linux; and that vhost_user.c maps regions
+# as entry.c says. One thread runs, no kernel: a guest that writes meanwhile is any value at each atomic read, and any
+# step of a chain. Frama-C refuses _Atomic(T) and _Alignas, so they are left out, and it does not look at pointers
+# that are compared. WP's memory has types, by the hypotheses that it prints: it reads copies of the sources in which
+# bytes are kept apart from records, and a table's function is called by its name (annotations.txt). Eva takes from
+# the contract of take_chain in which memory its reply buffer lies, which WP does not prove. That a name's record is
+# as long as the name is assumed of record_size.
 #
-# Not analysed is the rest of programs/. vhost_user.c goes by numbers of messages that the proved library read. Of a
-# guest's requests the proved door reads names and numbers: passthrough.c cuts data at pieces of a request or a room,
-# passthrough_*.c hands names and offsets on to Linux, the latter below 2^63, and looks numbers of nodes and handles up in
-# tables, which hostile.py asks for under sanitizers; Frama-C lacks headers for them. fuse_device.c and fuse_ring.c go by
-# lengths of the host's kernel, which is trusted.
+# Not analysed is the rest of programs/. vhost_user.c uses numbers of messages that the proved library has read. Of a
+# guest's requests the proved codec reads names and numbers: passthrough.c cuts data at pieces of a request or a reply
+# buffer, passthrough_*.c passes names and offsets to Linux, the latter below 2^63, and looks numbers of nodes and
+# handles up in tables, which test_hostile.py tests under sanitizers; Frama-C lacks headers for them. fuse_device.c
+# and fuse_ring.c use lengths of the host's kernel, which is trusted.
 #
-# It wants Frama-C, Why3, Z3, CVC4 and Python 3. Status 0: so it is; 1: it is not; 2: it could not start.
+# It requires Frama-C, Why3, Z3, CVC4 and Python 3. Status 0: all alarms are known; 1: they are not; 2: it could not
+# start.
 set -euo pipefail
 . "$(dirname "$0")/../../tools/lib/usage.sh"
 . "$(dirname "$0")/../../tools/lib/program.sh"
@@ -39,7 +40,7 @@ need why3 "Install it: apt-get install why3."
 need z3 "Install it: apt-get install z3."
 need cvc4 "Install it: apt-get install cvc4."
 need python3 "Install it: apt-get install python3."
-# (another one has other words for the same)
+# (other versions word the same alarms differently)
 if [[ $(frama-c -version) != 25.* ]]; then
     echo "Missing: Frama-C 25, as Debian 12 has it; here it is $(frama-c -version)." >&2
     exit 2
@@ -51,7 +52,8 @@ mkdir -p "$out/annotated" "$out/found"
 cd "$here/tests/analyse"
 export WHY3CONFIG=$out/why3.conf
 why3 config detect -C "$WHY3CONFIG" > "$out/said" 2>&1
-python3 annotate.py annotations.txt "$out/annotated" "$here"/programs/transport/vhost_queue.c "$here"/include/nizwarf*.h
+python3 annotate.py annotations.txt "$out/annotated" "$here"/programs/transport/vhost_queue.c "$here"/include/nizwarf*.h \
+    "$here"/lib/{internal.h,codec.c,convert.c,ops.c,server.c}
 
 linux="-idirafter /usr/include -idirafter /usr/include/$(cc -print-multiarch)"
 queue="-include specifications.h -I headers"
@@ -59,18 +61,18 @@ queue_here="-I $here/include -I $here/programs/transport"
 flags=(-c11 -machdep gcc_x86_64 -kernel-warn-key annot:missing-spec=inactive
     -kernel-warn-key typing:implicit-conv-void-ptr=inactive)
 
-# Runs are beside one another, as many as there are processors.
+# As many parts run at once as there are processors.
 count=$(grep -cE '^(only=[^ ]* )?run ' run.sh)
 : > "$out/done"
 run() {
     while [ "$(jobs -rp | wc -l)" -ge "$(nproc)" ]; do
         wait -n || true
     done
-    tell "$@" &
+    report "$@" &
 }
 
-# Makes a run, and tells what came of it: tell NAME HOW WORDS..
-tell() {
+# Runs a part, and reports its result: report NAME HOW WORDS..
+report() {
     local name=$1 begun=$SECONDS said
     shift
     if ! said=$("$@"); then
@@ -90,7 +92,7 @@ prove() {
     local functions
     functions=$(printf '%s,' "$@")
     frama-c "${flags[@]}" "-cpp-extra-args=$includes $linux" "$file" -wp -wp-model Typed+Cast -wp-rte \
-        -wp-fct "${functions%,}" ${only:+"-wp-prop=$only"} -wp-prover "$provers" -wp-timeout 60 -wp-par 2 \
+        -wp-fct "${functions%,}" ${only:+"-wp-prop=$only"} -wp-prover "$provers" -wp-timeout 240 -wp-par 2 \
         > "$out/$name" 2>&1 || return
     sed -n 's/^\[wp\] \[\(Failed\|Timeout\|Unknown\|Stepout\)\] Goal \(\S*\).*/WP: \2/p
         s/^\[wp\] \[CVC4[^]]*\] Goal \(\S*\) : \(Failed\|Timeout\|Unknown\).*/WP: \1/p' "$out/$name" > "$out/found/$name"
@@ -115,27 +117,27 @@ evaluate() {
 
 # (those that take longest come first)
 headers="-I headers -I $out/annotated -I ."
-run filled prove filled headers.c cvc4 "$headers" nizwarf_do_data nizwarf_do_record nizwarf_do_written \
-    nizwarf_do_init nizwarf_do_others nizwarf_do_release
+run filled prove filled headers.c cvc4 "$headers" do_data do_record do_written \
+    do_init do_others do_release
 run chain prove chain chains.c z3,cvc4 "$queue -I $out/annotated $queue_here" take_chain
-run pieces prove pieces headers.c cvc4 "$headers" nizwarf_add_up nizwarf_put nizwarf_front nizwarf_begin_ask \
-    nizwarf_is_wrong nizwarf_is_cut nizwarf_put_changed nizwarf_take_interrupt nizwarf_message nizwarf_message_take
-run made prove made headers.c cvc4 "$headers" nizwarf_do_forgets nizwarf_do_quiet nizwarf_do_lock nizwarf_do_done \
-    nizwarf_do_entry nizwarf_do_attr nizwarf_do_open
+run pieces prove pieces headers.c cvc4 "$headers" add_up put_reply copy_front has_one_part begin_decode \
+    is_wrong is_cut put_changed nizwarf_take_interrupt nizwarf_server_handle nizwarf_server_handle_take
+run made prove made headers.c cvc4 "$headers" do_forgets do_quiet do_lock do_done \
+    do_entry do_attr do_open
 run copies prove copies chains.c z3,cvc4 "$queue -I $out/annotated $queue_here" mark copy_up_to add_request add_piece
-only=-same,-names run items prove items headers.c cvc4 "$headers" nizwarf_do_directory nizwarf_add_item \
+only=-same,-names run items prove items headers.c cvc4 "$headers" do_directory add_item \
     nizwarf_add_direntry
-only=same,names run added prove added headers.c cvc4 "$headers" nizwarf_add_item nizwarf_add_direntry
-read_fields=$(sed -n '/-- fields of a call/,/-- what is inline/s/^.*static inline .*\b\(nizwarf_\w*\)(.*/\1/p' table.acsl)
+only=same,names run added prove added headers.c cvc4 "$headers" add_item nizwarf_add_direntry
+read_fields=$(sed -n '/-- fields of a call/,/-- the C files/s/^.*\b\(nizwarf_\w*\)(const nizwarf_call \*call);/\1/p' table.acsl)
 # shellcheck disable=SC2086
 run fields prove fields headers.c cvc4 "$headers" $read_fields nizwarf_answer_options nizwarf_answer_backing \
-    nizwarf_answer_offset nizwarf_keep_interrupt nizwarf_served nizwarf_seconds_of nizwarf_nanoseconds_of \
-    nizwarf_entry_of nizwarf_has_open_flags nizwarf_file_of
+    nizwarf_answer_offset nizwarf_keep_interrupt nizwarf_served seconds_of nanoseconds_of \
+    entry_of has_open_flags file_of
 run worker evaluate worker entry.c "$queue $queue_here" -eva-precision 2 -eva-plevel 5000 -eva-partition-history 2 \
     -eva-mlevel 8 -eva-auto-loop-unroll 16 -eva-use-spec take_chain,mark
-run doors evaluate doors headers-entry.c "-I headers -I $here/include" -main doors -eva-precision 1 \
+run codecs evaluate codecs headers-entry.c "-I headers -I $here/include -I $here/lib" -main codecs -eva-precision 1 \
     -eva-auto-loop-unroll 10 -eva-slevel 20 -eva-split-return auto
-run tables evaluate tables headers-entry.c "-I headers -I $here/include" -main ops -eva-precision 0 \
+run tables evaluate tables headers-entry.c "-I headers -I $here/include -I $here/lib" -main ops -eva-precision 0 \
     -eva-auto-loop-unroll 10 -eva-slevel 5 -eva-split-return auto
 run ids evaluate ids ids-entry.c "-I $here/programs/share" -eva-precision 1
 wait

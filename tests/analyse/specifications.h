@@ -1,6 +1,6 @@
-/* What Frama-C takes the analysed sources to call, included before them: functions of the proved library by what
- * their contracts say (crates/nizwarf_border/src/chains.rt, vhost.rt), as far as memory depends on it, and atomic
- * accesses as plain ones. Those of what a guest writes too are volatile: each reads any value. */
+/* The functions that the analysed sources call, included before them: those of the proved library by their
+ * contracts (crates/nizwarf_border/src/chains.rt, vhost.rt), as far as memory depends on them, and atomic
+ * accesses as plain ones. Accesses to memory that a guest writes too are volatile: each reads any value. */
 #ifndef SPECIFICATIONS_H
 #define SPECIFICATIONS_H
 

@@ -1,5 +1,5 @@
 #!/usr/bin/env python3
-"""Holds the door's data, as the crates define them, against include/nizwarf.h and the kernel's header.
+"""Holds the codec's data, as the crates define them, against include/nizwarf.h and the kernel's header.
 
 Usage: tests/c/data.py [--print]
 It makes a C program of static assertions, and compiles it: of each struct that C hands in or is told the place and the
@@ -26,10 +26,14 @@ if words not in ([], ["--print"]):
 HEADER = read("include/nizwarf.h")
 STRUCTS = {"Range": "nizwarf_range", "SetattrData": "nizwarf_setattr", "CallData": "nizwarf_call",
            "AttrData": "nizwarf_attr", "EntryData": "nizwarf_entry", "StatisticsData": "nizwarf_statfs",
-           "ToldData": "nizwarf_told", "SessionData": "nizwarf_session",
+           "ToldData": "nizwarf_result", "SessionData": "nizwarf_session",
+           "Settings": "nizwarf_server_config", "Place": "nizwarf_reply_range",
            "SetattrIn": "struct fuse_setattr_in", "Attr": "struct fuse_attr"}
-SIZES = {"u64": 8, "u32": 4, "i32": 4}
-lines = ["#include <stddef.h>", '#include "nizwarf.h"', "#include <linux/fuse.h>"]
+# Fields that have another name in C.
+IN_C = {("CallData", "call"): "opcode", ("CallData", "answer"): "reply", ("CallData", "room"): "reply_size",
+        ("ToldData", "put"): "written", ("ToldData", "give_back"): "forget", ("ToldData", "taken"): "entries"}
+SIZES = {"u64": 8, "u32": 4, "i32": 4, "usize": 8, "*const u8": 8}
+lines = ["#include <stddef.h>", '#include "nizwarf_tree.h"', "#include <linux/fuse.h>"]
 faults, held = [], {"structs": 0, "numbers": 0, "copies": 0, "zeros": 0}
 
 
@@ -48,11 +52,12 @@ def whole(struct, fields):
 
 # ---- structs
 
-for name, body in re.findall(r"^#\[repr\(C\)\]\n(?:#[^\n]*\n)*pub struct (\w+) \{\n(.*?)^\}", read("crates/door_calls/src/*.rt")
-                             + read("crates/nizwarf_door/src/data.rt"), re.M | re.S):
+for name, body in re.findall(r"^#\[repr\(C\)\]\n(?:#[^\n]*\n)*pub struct (\w+) \{\n(.*?)^\}", read("crates/codec_calls/src/*.rt")
+                             + read("crates/nizwarf_codec/src/data.rt") + read("crates/nizwarf_tree/src/*.rt"), re.M | re.S):
     if name not in STRUCTS:
         continue
-    fields, place = re.findall(r"^    pub (\w+): (\w+),", body, re.M), "0"
+    fields = [(IN_C.get((name, field), field), kind) for field, kind in re.findall(r"^    pub (\w+): ([^,]+),", body, re.M)]
+    place = "0"
     for field, kind in fields:
         hold(f"offsetof({STRUCTS[name]}, {field}) == {place}", f"{STRUCTS[name]}: {field}")
         bytes_of = SIZES.get(kind) or f"sizeof({STRUCTS[kind]})"
@@ -81,16 +86,17 @@ def hold_number(names, value, what):
         faults.append(f"{what}: nizwarf.h has none of {', '.join(names)}")
 
 
-for module, body in re.findall(r"^pub mod (\w+) \{\n(.*?)^\}", read("crates/door_calls/src/call.rt"), re.M | re.S):
+for module, body in re.findall(r"^pub mod (\w+) \{\n(.*?)^\}", read("crates/codec_calls/src/call.rt"), re.M | re.S):
     for name, value in re.findall(r"pub const (\w+): u32 = (\d+);", body):
-        hold_number([f"NIZWARF_HAS_{name}", f"NIZWARF_{name}"] if module == "has" else [f"NIZWARF_{name}"], value, module)
+        prefix = {"has": "HAS_", "kind": "REPLY_"}.get(module, "")
+        hold_number([f"NIZWARF_{prefix}{name}", f"NIZWARF_{name}"], value, module)
         opcode = f"FUSE_{OPCODES.get(name, name)}"
         if module == "number" and re.search(rf"\b{opcode}\b", KERNEL.stdout):
             hold(f"(int){opcode} == {value}", f"{opcode} is {value}")
             held["numbers"] += 1
 CODES = read("crates/c_rooms/specs/Codes.antt")
 # Codes whose definition has another name than the header's constant.
-CALLED = {"no_memory": "OUT_OF_MEMORY", "is_asked": "ASKED"}
+CALLED = {"no_memory": "OUT_OF_MEMORY", "is_asked": "CALL", "not_asked": "BAD_CALL"}
 CODE = dict(re.findall(r"^abbrev pub (\w+) : ℤ\n\1 = pos (\d+)$", CODES, re.M))
 for name, value in CODE.items():
     hold_number([f"NIZWARF_{CALLED.get(name, name.upper())}"], value, "a code")
@@ -102,17 +108,17 @@ for error, value in re.findall(r"^outcome_code \((?:Err )?\(?(\w+)[^=]*\) = (?:p
 
 # ---- definitions
 
-for text in (read("crates/door_calls/specs/Shapes.antt"), read("crates/door_calls/specs/Values.antt")):
+for text in (read("crates/codec_calls/specs/Shapes.antt"), read("crates/codec_calls/specs/Values.antt")):
     for found in re.finditer(COPIED, text, re.M):
         name, given, made, body = found.groups()[:4]
-        fields = re.findall(r"(\w+) = ", body)
+        fields = [IN_C.get((made, it), it) for it in re.findall(r"(\w+) = ", body)]
         for field in fields:
             hold(f"offsetof({STRUCTS[given]}, {field}) == offsetof({STRUCTS[made]}, {field}) && "
                  f"{size(STRUCTS[given], field)} == {size(STRUCTS[made], field)}", f"{name}: {field}")
         whole(STRUCTS[made], fields)
         held["copies"] += 1
     for name, made, body in re.findall(ZEROS, text, re.M):
-        whole(STRUCTS[made], re.findall(r"«?(\w+)»? = ", body))
+        whole(STRUCTS[made], [IN_C.get((made, it), it) for it in re.findall(r"«?(\w+)»? = ", body)])
         held["zeros"] += 1
 
 if words:

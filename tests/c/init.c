@@ -41,7 +41,7 @@ struct reply {
 /* Which of the options besides are offered by the first `len` bytes of an INIT. */
 static uint64_t offered(const struct request *request, size_t len)
 {
-	return nizwarf_init_offered_at((const uint8_t *)request, len);
+	return nizwarf_init_capable_at((const uint8_t *)request, len);
 }
 
 /* Options besides are bits of `flags2`, from 32 on, and count with INIT_EXT alone. */
@@ -80,14 +80,14 @@ static struct reply agreed(void)
 }
 
 /* Adds to a reply what `more` wants of what is offered besides (`further`); tells which options were agreed on. */
-static uint64_t add(struct reply *reply, uint64_t further, const nizwarf_init_more *more)
+static uint64_t add(struct reply *reply, uint64_t further, const nizwarf_init_params *more)
 {
 	return nizwarf_add_to_init_at((uint8_t *)reply, sizeof(*reply), further, more);
 }
 
 /* Whether what was added is this, and else the reply is what it was. */
 static int is_added(struct reply reply, const struct reply *wanted, uint64_t further,
-		    const nizwarf_init_more *more, uint64_t on)
+		    const nizwarf_init_params *more, uint64_t on)
 {
 	return add(&reply, further, more) == on && !memcmp(&reply, wanted, sizeof(reply));
 }
@@ -95,10 +95,10 @@ static int is_added(struct reply reply, const struct reply *wanted, uint64_t fur
 /* Each number that is wanted, in the field of its own, and 0, which leaves what the reply has. */
 static void hold_numbers(void)
 {
-	const nizwarf_init_more none = { 0 };
+	const nizwarf_init_params none = { 0 };
 	/* (want, max_readahead, max_write, time_gran, max_stack_depth, request_timeout, max_background,
 	 * congestion_threshold) */
-	nizwarf_init_more more = { ALL, 1 << 16, 1, 1000, 2, 100000, 12, 9, 0 };
+	nizwarf_init_params more = { ALL, 1 << 16, 1, 1000, 2, 100000, 12, 9, 0 };
 	struct reply reply = agreed(), wanted = reply;
 
 	CHECK(is_added(reply, &wanted, ALL, &none, 0));
@@ -128,7 +128,7 @@ static void hold_numbers(void)
  * is cut. */
 static void hold_others(void)
 {
-	const nizwarf_init_more more = { ALL, 0, 0, 1000, 2, 60, 12, 9, 0 };
+	const nizwarf_init_params more = { ALL, 0, 0, 1000, 2, 60, 12, 9, 0 };
 	struct reply reply = agreed(), was;
 	size_t len;
 

@@ -8,7 +8,7 @@
 #include <linux/fuse.h>
 #include <string.h>
 #include "allocations.h"
-#include "nizwarf.h"
+#include "nizwarf_tree.h"
 #define CASE "opcode %u, %zu bytes\n", (unsigned)header->opcode, (size_t)header->len
 #include "check.h"
 
@@ -28,11 +28,11 @@ static union {
 	struct fuse_out_header header;
 	uint8_t bytes[WIDE + PAGE];
 } reply;
-static nizwarf_segment pieces[CUTS]; /* of the request: the first `count` */
+static struct iovec pieces[CUTS]; /* of the request: the first `count` */
 static size_t count;
 static nizwarf_session session = { 0, PAGE, MOST };
-static nizwarf_slot slot = NIZWARF_NONE;
-static nizwarf_server server = NIZWARF_NONE;
+static nizwarf_scratch slot = NIZWARF_SCRATCH_INIT;
+static nizwarf_server server = NIZWARF_SERVER_INIT;
 static char name[NAME + 1];
 
 /* A request, with a record, in one piece; what is added is after it. */
@@ -45,7 +45,7 @@ static void begin(uint32_t opcode, uint64_t node, const void *record, size_t len
 	};
 	if (len)
 		memcpy(request.bytes + sizeof(*header), record, len);
-	pieces[0] = (nizwarf_segment){ request.bytes, header->len };
+	pieces[0] = (struct iovec){ request.bytes, header->len };
 	count = 1;
 }
 
@@ -55,7 +55,7 @@ static void add(const void *bytes, size_t len)
 	CHECK(header->len + len <= sizeof(request));
 	memcpy(request.bytes + header->len, bytes, len);
 	header->len += (uint32_t)len;
-	pieces[0].len = header->len;
+	pieces[0].iov_len = header->len;
 }
 
 /* That many bytes that are no 0. */
@@ -64,14 +64,14 @@ static void fill(size_t len)
 	CHECK(header->len + len <= sizeof(request));
 	memset(request.bytes + header->len, 'x', len);
 	header->len += (uint32_t)len;
-	pieces[0].len = header->len;
+	pieces[0].iov_len = header->len;
 }
 
 /* Cuts it into two pieces, at a place. */
 static void cut_in_two(size_t at)
 {
-	pieces[0].len = at;
-	pieces[1] = (nizwarf_segment){ request.bytes + at, header->len - at };
+	pieces[0].iov_len = at;
+	pieces[1] = (struct iovec){ request.bytes + at, header->len - at };
 	count = 2;
 }
 
@@ -81,16 +81,16 @@ static void cut_in_many(void)
 	const size_t most = header->len < CUTS ? header->len : CUTS;
 
 	for (count = 0; count < most; count++)
-		pieces[count] = (nizwarf_segment){ request.bytes + count, 1 };
-	pieces[count - 1].len = header->len - (count - 1); /* the last has the rest */
+		pieces[count] = (struct iovec){ request.bytes + count, 1 };
+	pieces[count - 1].iov_len = header->len - (count - 1); /* the last has the rest */
 }
 
 /* Puts empty pieces before it, as many as there are but one. (an empty piece costs as much memory as another) */
 static void put_behind_empty(void)
 {
 	for (count = 0; count < CUTS - 1; count++)
-		pieces[count] = (nizwarf_segment){ request.bytes, 0 };
-	pieces[count++] = (nizwarf_segment){ request.bytes, header->len };
+		pieces[count] = (struct iovec){ request.bytes, 0 };
+	pieces[count++] = (struct iovec){ request.bytes, header->len };
 }
 
 /* The name of this number, which is as long as a name may be. */
@@ -100,30 +100,31 @@ static void set_name(unsigned number)
 	name[snprintf(name, NAME, "%u", number)] = '-';
 }
 
-/* ---- The door: a request asks, and is answered. */
+/* ---- The codec: a request asks, and is answered. */
 
 /* Asks, with `space` bytes of room. The slot keeps memory for an answer in that room. */
 static nizwarf_call ask(size_t space)
 {
-	const nizwarf_room room = { reply.bytes, space };
+	const struct iovec room = { reply.bytes, space };
 	nizwarf_call call;
-	nizwarf_told told;
+	nizwarf_result result;
 
-	CHECK(nizwarf_ask(&slot, &session, pieces, count, &room, 1, &call, &told) == NIZWARF_ASKED);
-	CHECK(call.room == space);
+	CHECK(nizwarf_decode(&slot, &session, 0, pieces, count, &room, 1, &call, &result) == NIZWARF_CALL);
+	CHECK(call.reply_size == space);
 	return call;
 }
 
 /* Answers what was asked: how many items were taken. `len` is the reply's. */
 static uint64_t answer(const nizwarf_call *call, const nizwarf_answer *with, size_t len)
 {
-	const nizwarf_room room = { reply.bytes, call->room };
-	nizwarf_told told;
+	const struct iovec room = { reply.bytes, call->reply_size };
+	nizwarf_result result;
 
-	CHECK(nizwarf_reply(&slot, &session, call, with, &room, 1, &told) == NIZWARF_OK);
-	CHECK(told.len == len && told.put == (call->answer == NIZWARF_DATA && len > 16 ? 16 : len));
+	CHECK(nizwarf_encode(&slot, &session, call, with, &room, 1, &result) == NIZWARF_OK);
+	CHECK(result.len == len &&
+	      result.written == (call->reply == NIZWARF_REPLY_DATA && len > 16 ? 16 : len));
 	CHECK(!len || (reply.header.len == len && reply.header.error == 0));
-	return told.taken;
+	return result.entries;
 }
 
 /* As many requests as a slot answers without new memory: what is told keeps its memory, and what is finished. */
@@ -133,10 +134,10 @@ static void nothing_is_allocated(void)
 					    FUSE_STATFS, FUSE_FLUSH,   FUSE_DESTROY, FUSE_READLINK };
 	static const nizwarf_answer none;
 	static const uint8_t record[64];
-	const nizwarf_room room = { reply.bytes, WIDE };
+	const struct iovec room = { reply.bytes, WIDE };
 	const long before = asked;
 	nizwarf_call call;
-	nizwarf_told told;
+	nizwarf_result result;
 	size_t i;
 
 	for (i = 0; i < sizeof(opcodes) / sizeof(*opcodes); i++) {
@@ -144,11 +145,11 @@ static void nothing_is_allocated(void)
 		if (opcodes[i] == FUSE_LOOKUP)
 			add("a", 2);
 		call = ask(WIDE);
-		CHECK(nizwarf_reply(&slot, &session, &call, &none, &room, 1, &told) == NIZWARF_OK);
+		CHECK(nizwarf_encode(&slot, &session, &call, &none, &room, 1, &result) == NIZWARF_OK);
 		CHECK(asked == before);
 	}
 	begin(99, 1, record, sizeof(record)); /* no such opcode */
-	CHECK(nizwarf_ask(&slot, &session, pieces, count, &room, 1, &call, &told) == NIZWARF_OK);
+	CHECK(nizwarf_decode(&slot, &session, 0, pieces, count, &room, 1, &call, &result) == NIZWARF_OK);
 	CHECK(reply.header.error == -ENOSYS && asked == before);
 }
 
@@ -159,7 +160,7 @@ static void long_replies(void)
 	const struct fuse_read_in read = { .size = WIDE };
 	/* bytes of an item, and how many there is room for */
 	const size_t record = 24 + NAME + 1, most = WIDE / record;
-	nizwarf_item *items = malloc((most + 1) * sizeof(*items));
+	nizwarf_dirent *items = malloc((most + 1) * sizeof(*items));
 	nizwarf_answer with = { .text = request.bytes, .text_len = WIDE };
 	nizwarf_call call;
 	size_t i;
@@ -171,7 +172,7 @@ static void long_replies(void)
 	answer(&call, &with, WIDE + 16);
 	CHECK(!memcmp(reply.bytes + 16, request.bytes, WIDE));
 	for (i = 0; i <= most; i++)
-		items[i] = (nizwarf_item){
+		items[i] = (nizwarf_dirent){
 			.ino = 2 + i, .offset = 1 + i, .name = (uint8_t *)name, .name_size = NAME + 1
 		};
 	begin(FUSE_READDIR, 1, &read, sizeof(read));
@@ -180,7 +181,7 @@ static void long_replies(void)
 	CHECK(answer(&call, &with, most * record + 16) == most);
 	/* (the slot has seen the largest room) */
 	nothing_is_allocated();
-	CHECK(nizwarf_end_slot(&slot) == NIZWARF_OK);
+	CHECK(nizwarf_scratch_free(&slot) == NIZWARF_OK);
 	free(items);
 }
 
@@ -204,7 +205,8 @@ static void long_requests(void)
 	CHECK(ask(16).data.len == WIDE);
 	begin(FUSE_BATCH_FORGET, 0, &forget, sizeof(forget));
 	fill(WIDE);
-	CHECK(nizwarf_check(&session, request.bytes, header->len, 0, &checked, &interrupts) == NIZWARF_ASKED);
+	CHECK(nizwarf_check(&session, 0, request.bytes, header->len, 0, &checked, &interrupts) ==
+	      NIZWARF_CALL);
 	cut_in_two(100);
 	call = ask(0);
 	CHECK(call.data.len == WIDE && !memcmp(&call, &checked, sizeof(call)));
@@ -219,25 +221,25 @@ static void long_requests(void)
 		fill(names ? 16 : 1 << 20);
 		/* the value's length */
 		((uint32_t *)(void *)(request.bytes + 48 + sizeof(name)))[2] = names ? 16 : 1 << 20;
-		CHECK(nizwarf_check(&session, request.bytes, header->len, 160, &checked, &interrupts) ==
-		      NIZWARF_ASKED);
+		CHECK(nizwarf_check(&session, 0, request.bytes, header->len, 160, &checked, &interrupts) ==
+		      NIZWARF_CALL);
 		cut_in_two(header->len / 2);
 		call = ask(160);
 		CHECK(!memcmp(&call, &checked, sizeof(call)));
 		CHECK(call.context.len == context[2] || names);
 	}
 	session.options = 0;
-	CHECK(nizwarf_end_slot(&slot) == NIZWARF_OK);
+	CHECK(nizwarf_scratch_free(&slot) == NIZWARF_OK);
 }
 
 /* Requests in thousands of pieces, and the reply in as many. */
 static void many_pieces(void)
 {
-	static nizwarf_room rooms[CUTS];
+	static struct iovec rooms[CUTS];
 	const struct fuse_write_in write = { .size = PAGE };
 	const nizwarf_answer written = { .count = PAGE };
 	nizwarf_call call;
-	nizwarf_told told;
+	nizwarf_result result;
 	size_t i;
 
 	begin(FUSE_WRITE, 2, &write, sizeof(write));
@@ -245,12 +247,12 @@ static void many_pieces(void)
 	cut_in_many();
 	CHECK(count == header->len); /* a piece for each byte */
 	for (i = 0; i < CUTS; i++)
-		rooms[i] = (nizwarf_room){ reply.bytes + i, 1 };
-	CHECK(nizwarf_ask(&slot, &session, pieces, count, rooms, CUTS, &call, &told) == NIZWARF_ASKED);
+		rooms[i] = (struct iovec){ reply.bytes + i, 1 };
+	CHECK(nizwarf_decode(&slot, &session, 0, pieces, count, rooms, CUTS, &call, &result) == NIZWARF_CALL);
 	CHECK(call.data.len == PAGE);
-	CHECK(nizwarf_reply(&slot, &session, &call, &written, rooms, CUTS, &told) == NIZWARF_OK &&
-	      told.len == 24);
-	CHECK(nizwarf_end_slot(&slot) == NIZWARF_OK);
+	CHECK(nizwarf_encode(&slot, &session, &call, &written, rooms, CUTS, &result) == NIZWARF_OK &&
+	      result.len == 24);
+	CHECK(nizwarf_scratch_free(&slot) == NIZWARF_OK);
 }
 
 /* ---- The tree: a request is served. */
@@ -258,10 +260,10 @@ static void many_pieces(void)
 /* Serves a request: the error, as the reply has it. `space` is the room's length. */
 static int serve(size_t space)
 {
-	const nizwarf_room room = { reply.bytes, space };
+	const struct iovec room = { reply.bytes, space };
 	size_t len;
 
-	CHECK(nizwarf_message(&server, pieces, count, &room, 1, &len) == NIZWARF_OK && len >= 16);
+	CHECK(nizwarf_server_handle(&server, pieces, count, &room, 1, &len) == NIZWARF_OK && len >= 16);
 	CHECK(reply.header.len == len && reply.header.unique == header->unique);
 	return -reply.header.error;
 }
@@ -314,25 +316,26 @@ static void long_files(void)
 static void long_replies_taken(void)
 {
 	const struct fuse_read_in read = { .size = WIDE };
-	nizwarf_taken taken = NIZWARF_NONE;
+	nizwarf_reply_buf taken = NIZWARF_REPLY_BUF_INIT;
 	const void *at;
 	size_t len, i;
 	long before;
 
 	begin(FUSE_READDIR, 1, &read, sizeof(read));
 	for (i = 0; i < 4; i++) {
-		CHECK(nizwarf_message_take(&server, pieces, 1, WIDE + 16, &taken, &at, &len) == NIZWARF_OK);
+		CHECK(nizwarf_server_handle_take(&server, pieces, 1, WIDE + 16, &taken, &at, &len) ==
+		      NIZWARF_OK);
 		/* (all names, of which each is longer than NAME with its record) */
 		CHECK(len > NAMES * NAME && ((const struct fuse_out_header *)at)->len == len);
 	}
 	begin(FUSE_STATFS, 1, NULL, 0);
 	for (i = 0; i < 4; i++) {
 		before = asked;
-		CHECK(nizwarf_message_take(&server, pieces, 1, WIDE, &taken, &at, &len) == NIZWARF_OK &&
+		CHECK(nizwarf_server_handle_take(&server, pieces, 1, WIDE, &taken, &at, &len) == NIZWARF_OK &&
 		      len == 96);
 		CHECK(asked == before);
 	}
-	CHECK(nizwarf_end_taken(&taken) == NIZWARF_OK);
+	CHECK(nizwarf_reply_buf_free(&taken) == NIZWARF_OK);
 }
 
 /* A link's text and name, which are as long as Linux allows, and what else gets a name. */
@@ -426,7 +429,7 @@ static void pieces_of_the_tree(void)
 	const struct fuse_write_in write = { .size = PAGE };
 	const struct fuse_batch_forget_in forget = { .count = 1 << 16 };
 	const struct fuse_create_in create = { .mode = 0100644, .flags = 2 };
-	const nizwarf_room none = { reply.bytes, 0 };
+	const struct iovec none = { reply.bytes, 0 };
 	uint64_t file;
 	size_t len;
 
@@ -440,7 +443,7 @@ static void pieces_of_the_tree(void)
 	fill(1 << 20);
 	cut_in_many();
 	/* it has no reply */
-	CHECK(nizwarf_message(&server, pieces, count, &none, 1, &len) == NIZWARF_OK && !len);
+	CHECK(nizwarf_server_handle(&server, pieces, count, &none, 1, &len) == NIZWARF_OK && !len);
 	begin(FUSE_TMPFILE, 1, &create, sizeof(create));
 	add("/", 2);
 	put_behind_empty();
@@ -449,7 +452,7 @@ static void pieces_of_the_tree(void)
 
 int main(void)
 {
-	const nizwarf_settings settings = {
+	const nizwarf_server_config settings = {
 		.nodes = 1 << 20, .bytes = UINT64_C(1) << 32, .file = INT64_MAX, .mode = 0755
 	};
 
@@ -457,14 +460,14 @@ int main(void)
 	long_replies();
 	long_requests();
 	many_pieces();
-	CHECK(nizwarf_new(&server, PAGE, MOST, &settings) == NIZWARF_OK);
+	CHECK(nizwarf_server_new(&server, PAGE, MOST, &settings) == NIZWARF_OK);
 	long_names();
 	long_attributes();
 	pieces_of_the_tree();
 	many_names();
 	long_files();
 	long_replies_taken();
-	CHECK(nizwarf_end(&server) == NIZWARF_OK && live == 0);
+	CHECK(nizwarf_server_free(&server) == NIZWARF_OK && live == 0);
 	puts("Each place that takes memory had as much as it may be asked for.");
 	return 0;
 }

@@ -5,6 +5,7 @@
 #include <cstring>
 #include <linux/fuse.h>
 #include "nizwarf_ops.h"
+#include "nizwarf_tree.h"
 
 namespace
 {
@@ -33,10 +34,10 @@ struct reply {
 int32_t ask(uint64_t node, reply *to)
 {
 	nizwarf_ops ops = nizwarf_ops();
-	nizwarf_slot slot = NIZWARF_NONE;
+	nizwarf_scratch slot = NIZWARF_SCRATCH_INIT;
 	nizwarf_session session = { 0, 4096, 1 << 20 };
 	request from = request();
-	nizwarf_item items[1];
+	nizwarf_dirent items[1];
 	size_t len;
 
 	ops.getattr = root_getattr;
@@ -45,7 +46,7 @@ int32_t ask(uint64_t node, reply *to)
 	from.header.nodeid = node;
 	const int32_t code = nizwarf_serve_ops(&ops, nullptr, &slot, &session, &from, sizeof(from), to,
 					       sizeof(*to), items, 1, &len);
-	if (nizwarf_end_slot(&slot) != NIZWARF_OK || code != NIZWARF_OK)
+	if (nizwarf_scratch_free(&slot) != NIZWARF_OK || code != NIZWARF_OK)
 		return -1;
 	return to->header.error;
 }
@@ -54,9 +55,9 @@ int32_t ask(uint64_t node, reply *to)
 
 int main()
 {
-	nizwarf_server server = NIZWARF_NONE;
-	const nizwarf_settings settings = NIZWARF_SETTINGS;
-	const nizwarf_answer answer = NIZWARF_NO_ANSWER;
+	nizwarf_server server = NIZWARF_SERVER_INIT;
+	const nizwarf_server_config settings = NIZWARF_SERVER_CONFIG;
+	const nizwarf_answer answer = NIZWARF_ANSWER_INIT;
 	char notice[64], line[256];
 	const request cut = request();
 	reply got;
@@ -65,8 +66,8 @@ int main()
 			   got.record.attr.mode == (S_IFDIR | 0755) && ask(2, &got) == -ENOENT &&
 			   nizwarf_notice_poll(1, notice, sizeof(notice)) == 24 &&
 			   nizwarf_print_request(&cut, sizeof(cut), 0, line, sizeof(line)) > 0 &&
-			   nizwarf_new(&server, 4096, 1 << 20, &settings) == NIZWARF_OK &&
-			   nizwarf_end(&server) == NIZWARF_OK;
+			   nizwarf_server_new(&server, 4096, 1 << 20, &settings) == NIZWARF_OK &&
+			   nizwarf_server_free(&server) == NIZWARF_OK;
 	if (is_so)
 		std::puts("The headers compile and link in C++.");
 	return is_so ? 0 : 1;

@@ -1,4 +1,4 @@
-/* Holds the calls that a file system may offer (NIZWARF_OFFER_LOCKS ..) against linux/fuse.h: by the door, where each
+/* Holds the calls that a file system may offer (NIZWARF_FEATURE_LOCKS ..) against linux/fuse.h: by the codec, where each
  * is told of a request in pieces of any lengths, where its record is cut short, what its answer is, and how it is
  * printed; and by a table of nizwarf_ops.h.
  *
@@ -49,37 +49,37 @@ static const struct {
 	const char *name, *fields; /* printed, but for the fields of the header */
 	const char *words;	   /* the function that is called, and its arguments */
 	size_t reply_len;
-	nizwarf_call told; /* but for the fields of the header */
+	nizwarf_call call; /* but for the fields of the header */
 } rows[] = {
 /* clang-format off */
 #define ROW(name, offer, answer, record) \
-	NIZWARF_##name, NIZWARF_OFFER_##offer, NIZWARF_##answer, &(record), sizeof(record)
+	NIZWARF_##name, NIZWARF_FEATURE_##offer, NIZWARF_REPLY_##answer, &(record), sizeof(record)
 #define LOCK_FIELDS .handle = 4, .lock_owner = 5, .offset = 6, .other_offset = 7, .flags = F_WRLCK, .more = 8
-	{ ROW(GETLK, LOCKS, TEXT, lock), "",
+	{ ROW(GETLK, LOCKS, BYTES, lock), "",
 	  "GETLK", " fh=4 owner=5 start=6 end=7 type=1 pid=8 lk_flags=0", "getlk 2 4 5 6 7 1 8", 40,
 	  { LOCK_FIELDS, .has = NIZWARF_HAS_OWNER } },
-	{ ROW(SETLK, LOCKS, DONE, lock), "",
+	{ ROW(SETLK, LOCKS, STATUS, lock), "",
 	  "SETLK", " fh=4 owner=5 start=6 end=7 type=1 pid=8 lk_flags=0", "setlk 2 4 5 6 7 1 0", 16,
 	  { LOCK_FIELDS, .has = NIZWARF_HAS_OWNER } },
-	{ ROW(SETLKW, LOCKS, DONE, whole), "",
+	{ ROW(SETLKW, LOCKS, STATUS, whole), "",
 	  "SETLKW", " fh=4 owner=5 start=0 end=9223372036854775807 type=0 pid=8 lk_flags=FLOCK",
 	  "flock 2 4 5 1", 16,
 	  { .handle = 4, .lock_owner = 5, .other_offset = INT64_MAX, .flags = F_RDLCK, .more = 8,
-	    .has = NIZWARF_HAS_OWNER | NIZWARF_HAS_FLOCK } },
+	    .has = NIZWARF_HAS_OWNER | NIZWARF_LK_FLOCK } },
 	{ ROW(BMAP, BMAP, OFFSET, bmap), "",
 	  "BMAP", " block=6 blocksize=512", "bmap 2 512 6", 24, { .offset = 6, .size = 512 } },
 	/* (`data` comes after the header and the record) */
-	{ ROW(IOCTL, IOCTL, TEXT, ioctl), "four", "IOCTL",
+	{ ROW(IOCTL, IOCTL, BYTES, ioctl), "four", "IOCTL",
 	  " fh=4 flags=IOCTL_UNRESTRICTED cmd=0x9 arg=0xa in_size=4 out_size=100 data[4]=\"four\"",
 	  "ioctl 2 9 10 4 2 four 100", 35,
 	  { .handle = 4, .flags = 2, .more = 9, .offset = 10, .length = 4, .data = { 72, 4 }, .size = 100 } },
-	{ ROW(POLL, POLL, WRITTEN, poll_in), "",
+	{ ROW(POLL, POLL, COUNT, poll_in), "",
 	  "POLL", " fh=4 kh=11 flags=SCHEDULE_NOTIFY events=0x1", "poll 2 4 1 11 1", 24,
 	  { .handle = 4, .offset = 11, .flags = 1, .more = POLLIN } },
-	{ ROW(NOTIFY_REPLY, NOTIFY_REPLY, QUIET, retrieved), "four",
+	{ ROW(NOTIFY_REPLY, NOTIFY_REPLY, NONE, retrieved), "four",
 	  "NOTIFY_REPLY", " offset=6 size=4 data[4]=\"four\"", "retrieved 1 2 6 four", 0,
 	  { .offset = 6, .size = 4, .data = { 80, 4 } } },
-	{ ROW(STATX, STATX, TEXT, statx_in), "",
+	{ ROW(STATX, STATX, BYTES, statx_in), "",
 	  "STATX", " getattr_flags=FH fh=4 sx_flags=0x3 sx_mask=0x800", "statx 2 3 2048 4", 304,
 	  { .handle = 4, .has = NIZWARF_HAS_HANDLE, .flags = 3, .more = STATX_BTIME } },
 	{ ROW(COPY_64, COPY_64, OFFSET, copy), "",
@@ -95,21 +95,21 @@ enum { ROWS = sizeof(rows) / sizeof(*rows) };
 static int32_t check_cut(uint32_t offers, size_t len, nizwarf_call *call, uint64_t *interrupts)
 {
 	const long before = asked;
-	const int32_t code = nizwarf_check_offered(&session, offers, request, len, 4096, call, interrupts);
+	const int32_t code = nizwarf_check(&session, offers, request, len, 4096, call, interrupts);
 
 	CHECK(asked == before);
 	return code;
 }
 
 /* Asks what is in `request`, in two pieces. `len` bytes of it, of which the first piece has `cut`. */
-static int32_t ask_cut(uint32_t offers, size_t cut, size_t len, nizwarf_call *call, nizwarf_told *told)
+static int32_t ask_cut(uint32_t offers, size_t cut, size_t len, nizwarf_call *call, nizwarf_result *result)
 {
-	const nizwarf_segment pieces[] = { { request, cut }, { request + cut, len - cut } };
-	const nizwarf_room room = { ours, 4096 };
+	const struct iovec pieces[] = { { request, cut }, { request + cut, len - cut } };
+	const struct iovec room = { ours, 4096 };
 
 	memset(call, 1, sizeof(*call)); /* what stays 1 was not set */
-	memset(told, 1, sizeof(*told));
-	return nizwarf_ask_offered(&slot, &session, offers, pieces, 2, &room, 1, call, told);
+	memset(result, 1, sizeof(*result));
+	return nizwarf_decode(&slot, &session, offers, pieces, 2, &room, 1, call, result);
 }
 
 /* A request of a row, as it comes from Linux. */
@@ -124,40 +124,42 @@ static void begin_row(size_t i)
 static void told_as_asked(size_t i)
 {
 	static const nizwarf_call none;
-	nizwarf_call call, expected = rows[i].told, before;
+	nizwarf_call call, expected = rows[i].call, before;
 	uint64_t interrupts;
-	nizwarf_told told;
+	nizwarf_result result;
 	int32_t code;
 	size_t cut;
 
 	begin_row(i);
 	expected.unique = unique;
-	expected.room = 4096;
+	expected.reply_size = 4096;
 	expected.node = 2;
-	expected.call = rows[i].opcode;
-	expected.answer = rows[i].answer;
+	expected.opcode = rows[i].opcode;
+	expected.reply = rows[i].answer;
 	expected.uid = 1000;
 	expected.gid = 1001;
 	expected.pid = 77;
 	memset(ours, FILL, 4096);
 	for (cut = 0; cut <= request_len; cut++) {
-		CHECK(ask_cut(rows[i].offer, cut, request_len, &call, &told) == NIZWARF_ASKED);
+		CHECK(ask_cut(rows[i].offer, cut, request_len, &call, &result) == NIZWARF_CALL);
 		CHECK(!memcmp(&call, &expected, sizeof(call)));
-		CHECK(!told.len && !told.put && !told.interrupts && told.options == session.options);
+		CHECK(!result.len && !result.written && !result.interrupts &&
+		      result.options == session.options);
 	}
-	CHECK(check_cut(rows[i].offer, request_len, &call, &interrupts) == NIZWARF_ASKED);
+	CHECK(check_cut(rows[i].offer, request_len, &call, &interrupts) == NIZWARF_CALL);
 	CHECK(!memcmp(&call, &expected, sizeof(call)) && !interrupts);
 	for (cut = 40; cut < request_len; cut++) { /* a whole header, and less than a whole record or data */
-		CHECK(ask_cut(ALL, cut / 2, cut, &call, &told) == NIZWARF_DECODE_MESSAGE);
+		CHECK(ask_cut(ALL, cut / 2, cut, &call, &result) == NIZWARF_DECODE_MESSAGE);
 		CHECK(!memcmp(&call, &none, sizeof(call)));
-		CHECK(!told.len && !told.put && !told.interrupts && told.options == session.options);
+		CHECK(!result.len && !result.written && !result.interrupts &&
+		      result.options == session.options);
 		CHECK(check_cut(ALL, cut, &call, &interrupts) == NIZWARF_DECODE_MESSAGE);
 		CHECK(!memcmp(&call, &none, sizeof(call)) && !interrupts);
 	}
 	for (cut = 0; cut < 4096; cut++) /* the room is as it was */
 		CHECK(ours[cut] == FILL);
-	code = ask_cut(0, 41, request_len, &before, &told); /* nothing is offered */
-	CHECK(ask_cut(ALL & ~rows[i].offer, 41, request_len, &call, &told) == code);
+	code = ask_cut(0, 41, request_len, &before, &result); /* nothing is offered */
+	CHECK(ask_cut(ALL & ~rows[i].offer, 41, request_len, &call, &result) == code);
 	CHECK(!memcmp(&call, &before, sizeof(call)));
 }
 
@@ -198,22 +200,22 @@ static void data_that_lack(void)
 	struct fuse_ioctl_in long_one = ioctl;
 	const uint32_t sizes[] = { 5, 6, 1 << 20, INT32_MAX, UINT32_MAX };
 	nizwarf_call call;
-	nizwarf_told told;
+	nizwarf_result result;
 	size_t i;
 
 	for (i = 0; i < sizeof(sizes) / sizeof(*sizes); i++) {
 		long_one.in_size = many.size = sizes[i]; /* of 4 that are there */
 		begin_with(NIZWARF_IOCTL, 2, &long_one, sizeof(long_one));
 		add("four", 4);
-		CHECK(ask_cut(ALL, 50, request_len, &call, &told) == NIZWARF_DECODE_MESSAGE);
+		CHECK(ask_cut(ALL, 50, request_len, &call, &result) == NIZWARF_DECODE_MESSAGE);
 		begin_with(NIZWARF_NOTIFY_REPLY, 2, &many, sizeof(many));
 		add("four", 4);
-		CHECK(ask_cut(ALL, 50, request_len, &call, &told) == NIZWARF_DECODE_MESSAGE);
+		CHECK(ask_cut(ALL, 50, request_len, &call, &result) == NIZWARF_DECODE_MESSAGE);
 	}
 	/* (a request that says to be longer than any is left to the table) */
 	begin_row(0);
 	memset(request, 0xff, 4); /* its length */
-	CHECK(ask_cut(ALL, 50, request_len, &call, &told) == NIZWARF_OK &&
+	CHECK(ask_cut(ALL, 50, request_len, &call, &result) == NIZWARF_OK &&
 	      u32(ours + 4) == (uint32_t)-ENOMEM);
 }
 
@@ -222,7 +224,7 @@ static void unnamed_files(void)
 {
 	static const char *const tails[] = { "/", "", "a name", "not ended" };
 	nizwarf_call call, other;
-	nizwarf_told told, others;
+	nizwarf_result result, others;
 	uint64_t interrupts;
 	size_t i;
 
@@ -230,43 +232,43 @@ static void unnamed_files(void)
 		begin_with(NIZWARF_CREATE, 2, &unnamed, sizeof(unnamed));
 		add(tails[i], strlen(tails[i]) + (i != 3));
 		CHECK(ask_cut(ALL, 57, request_len, &other, &others) ==
-			      (i == 3 ? NIZWARF_INVALID_C_STRING : NIZWARF_ASKED) ||
+			      (i == 3 ? NIZWARF_INVALID_C_STRING : NIZWARF_CALL) ||
 		      i == 3);
 		request[4] = NIZWARF_TMPFILE; /* the opcode, and nothing else */
-		CHECK((ask_cut(ALL, 57, request_len, &call, &told) == NIZWARF_ASKED) == (i != 3));
+		CHECK((ask_cut(ALL, 57, request_len, &call, &result) == NIZWARF_CALL) == (i != 3));
 		if (i != 3)
-			other.call = NIZWARF_TMPFILE;
-		CHECK(!memcmp(&call, &other, sizeof(call)) && !memcmp(&told, &others, sizeof(told)));
+			other.opcode = NIZWARF_TMPFILE;
+		CHECK(!memcmp(&call, &other, sizeof(call)) && !memcmp(&result, &others, sizeof(result)));
 		CHECK(check_cut(ALL, request_len, &call, &interrupts) ==
-		      (i == 3 ? NIZWARF_INVALID_C_STRING : NIZWARF_ASKED));
+		      (i == 3 ? NIZWARF_INVALID_C_STRING : NIZWARF_CALL));
 		CHECK(!memcmp(&call, &other, sizeof(call)) && !interrupts);
 	}
 	begin_with(NIZWARF_TMPFILE, 2, &unnamed, 15); /* a byte less than a record */
-	CHECK(ask_cut(ALL, 50, request_len, &call, &told) == NIZWARF_DECODE_MESSAGE);
+	CHECK(ask_cut(ALL, 50, request_len, &call, &result) == NIZWARF_DECODE_MESSAGE);
 }
 
 /* Answers a row by that many bytes of text: the error of the reply, 0 if it has these bytes after its header. (it
  * must be one of the two) */
 static int answered(size_t i, const void *text, size_t len)
 {
-	nizwarf_answer answer = NIZWARF_NO_ANSWER;
-	const nizwarf_room room = { ours, 4096 };
+	nizwarf_answer answer = NIZWARF_ANSWER_INIT;
+	const struct iovec room = { ours, 4096 };
 	nizwarf_call call;
-	nizwarf_told told;
+	nizwarf_result result;
 
 	begin_row(i);
-	CHECK(ask_cut(ALL, 50, request_len, &call, &told) == NIZWARF_ASKED);
-	/* (NIZWARF_NO_ANSWER is EIO) */
+	CHECK(ask_cut(ALL, 50, request_len, &call, &result) == NIZWARF_CALL);
+	/* (NIZWARF_ANSWER_INIT is EIO) */
 	answer.error = 0;
 	answer.text = text;
 	answer.text_len = len;
-	CHECK(nizwarf_reply(&slot, &session, &call, &answer, &room, 1, &told) == NIZWARF_OK);
-	CHECK(told.len == u32(ours) && told.put == told.len && u64(ours + 8) == unique);
+	CHECK(nizwarf_encode(&slot, &session, &call, &answer, &room, 1, &result) == NIZWARF_OK);
+	CHECK(result.len == u32(ours) && result.written == result.len && u64(ours + 8) == unique);
 	if (u32(ours + 4)) {
-		CHECK(told.len == 16);
+		CHECK(result.len == 16);
 		return -(int)u32(ours + 4);
 	}
-	CHECK(told.len == 16 + len && !memcmp(ours + 16, text, len));
+	CHECK(result.len == 16 + len && !memcmp(ours + 16, text, len));
 	return 0;
 }
 
@@ -451,20 +453,30 @@ static void called_as_told(void)
 	expect("forget_multi 64 1 163 forget_multi 6 65 169 ", 4096, 0);
 }
 
-/* What is answered has no more bytes than the room: where it says so, and where the room is smaller than the record. */
+/* What is answered has no more bytes than the room: where a function says so, and where the room is smaller than the
+ * record. */
 static void text_in_room(void)
 {
-	static const uint32_t calls[] = { NIZWARF_IOCTL, NIZWARF_GETLK, NIZWARF_STATX };
-	const size_t space = sizeof(nizwarf_ioctl) + 4;
+	const size_t space = 16 + sizeof(nizwarf_ioctl) + 4;
+	size_t i, at, len;
 
 	excess = 1;
-	for (size_t i = 0; i < sizeof(calls) / sizeof(*calls); i++) {
-		const nizwarf_call call = { .call = calls[i], .answer = NIZWARF_TEXT, .size = 100 };
-		const nizwarf_req req = { NULL, &call, request };
-		nizwarf_answer answer = NIZWARF_NO_ANSWER;
+	for (i = 0; i < ROWS; i++) {
+		const int is_ioctl = rows[i].opcode == NIZWARF_IOCTL;
 
-		CHECK(nizwarf_do_record(&ops, &req, ours, space, &answer) == EIO);
-		CHECK(answer.text_len == (calls[i] == NIZWARF_IOCTL ? space : 0));
+		if (!is_ioctl && rows[i].opcode != NIZWARF_GETLK && rows[i].opcode != NIZWARF_STATX)
+			continue;
+		memset(ours, LATE, 4096);
+		begin_row(i);
+		nizwarf_serve_ops(&ops, said, &slot, &session, request, request_len, ours, space, NULL, 0,
+				  &len);
+		CHECK(!len || (len == 16 && u32(ours + 4) == (uint32_t)-EIO));
+		for (at = space; at < 4096; at++)
+			CHECK(ours[at] == LATE);
+		if (is_ioctl)
+			CHECK(nizwarf_serve_ops(&ops, said, &slot, &session, request, request_len, ours, 4096,
+						NULL, 0, &len) == NIZWARF_OK &&
+			      len == 16 && u32(ours + 4) == (uint32_t)-EIO);
 	}
 	excess = 0;
 }
@@ -481,7 +493,7 @@ static void left_alone(void)
 		begin_row(i);
 		said[0] = 0;
 		CHECK(nizwarf_serve_ops(&ops, said, &slot, &session, request, request_len, ours, 4096, NULL,
-					0, &len) == NIZWARF_ASKED);
+					0, &len) == NIZWARF_CALL);
 		CHECK(!strcmp(said, rows[i].words));
 		for (at = 0; at < 4096; at++)
 			CHECK(ours[at] == LATE);
@@ -520,11 +532,10 @@ static void kept_interrupts(void)
 	nizwarf_keep_interrupt(&kept, 5);
 	CHECK(!nizwarf_take_interrupt(&kept, 6) && nizwarf_take_interrupt(&kept, 5));
 	CHECK(!nizwarf_take_interrupt(&kept, 5));
-	for (uint64_t i = 1; i <= NIZWARF_MOST_INTERRUPTS + 1; i++)
+	for (uint64_t i = 1; i <= NIZWARF_MAX_INTERRUPTS + 1; i++)
 		nizwarf_keep_interrupt(&kept, i);
 	CHECK(!nizwarf_take_interrupt(&kept, 1) && nizwarf_take_interrupt(&kept, 2));
-	CHECK(nizwarf_take_interrupt(&kept, NIZWARF_MOST_INTERRUPTS + 1) &&
-	      !nizwarf_take_interrupt(&kept, 0));
+	CHECK(nizwarf_take_interrupt(&kept, NIZWARF_MAX_INTERRUPTS + 1) && !nizwarf_take_interrupt(&kept, 0));
 }
 
 int main(void)
@@ -542,6 +553,6 @@ int main(void)
 	left_alone();
 	agreed_besides();
 	kept_interrupts();
-	nizwarf_end_slot(&slot);
+	nizwarf_scratch_free(&slot);
 	return 0;
 }

@@ -7,6 +7,7 @@
 #include <pthread.h>
 #include <stdio.h>
 #include <stdlib.h>
+#include <string.h>
 #include "nizwarf_ops.h"
 
 enum { THREADS = 4, EACH = 2000, ROOM = 4096 }; /* EACH: rounds of a thread */
@@ -39,7 +40,7 @@ static void interrupt(void *user, uint64_t unique)
 static const nizwarf_ops ops = { .lookup = look_up, .interrupt = interrupt };
 
 /* Serves a request, which must be answered without an error. */
-static void serve(nizwarf_slot *slot, uint32_t opcode, const void *record, size_t len)
+static void serve(nizwarf_scratch *slot, uint32_t opcode, const void *record, size_t len)
 {
 	const struct fuse_in_header header = {
 		.len = (uint32_t)(sizeof(header) + len), .opcode = opcode, .unique = 2, .nodeid = FUSE_ROOT_ID
@@ -61,13 +62,13 @@ static void serve(nizwarf_slot *slot, uint32_t opcode, const void *record, size_
 static void *begin_and_end(void *none)
 {
 	const struct fuse_init_in init = { .major = 7, .minor = 38, .flags = FUSE_ASYNC_READ };
-	nizwarf_slot slot = NIZWARF_NONE;
+	nizwarf_scratch slot = NIZWARF_SCRATCH_INIT;
 
 	for (int i = 0; i < EACH; i++) {
 		serve(&slot, FUSE_INIT, &init, sizeof(init));
 		serve(&slot, FUSE_DESTROY, &init, 0);
 	}
-	nizwarf_end_slot(&slot);
+	nizwarf_scratch_free(&slot);
 	return none;
 }
 
@@ -75,13 +76,13 @@ static void *begin_and_end(void *none)
 static void *look(void *none)
 {
 	const struct fuse_interrupt_in number = { 2 };
-	nizwarf_slot slot = NIZWARF_NONE;
+	nizwarf_scratch slot = NIZWARF_SCRATCH_INIT;
 
 	for (int i = 0; i < EACH; i++) {
 		serve(&slot, FUSE_LOOKUP, "a", 2);
 		serve(&slot, FUSE_INTERRUPT, &number, sizeof(number));
 	}
-	nizwarf_end_slot(&slot);
+	nizwarf_scratch_free(&slot);
 	return none;
 }
 

@@ -186,7 +186,7 @@ static size_t space = 8192, most = 8;
 /* Serves the request: what is called is these words, and the reply has this length. */
 static void expect(const char *words, size_t len)
 {
-	nizwarf_item items[8]; /* of which `most` may be used */
+	nizwarf_dirent items[8]; /* of which `most` may be used */
 
 	memset(ours, FILL, space);
 	expect_of(table, NIZWARF_OK, space, items, most, words, len);
@@ -441,17 +441,17 @@ static void expect_options(uint64_t offered, uint64_t agreed)
 static void options(void)
 {
 	const uint64_t locks = FUSE_POSIX_LOCKS | FUSE_FLOCK_LOCKS | FUSE_HAS_IOCTL_DIR;
-	const uint64_t usual = NIZWARF_WANT_USUAL | NIZWARF_WANT_READDIRPLUS;
+	const uint64_t usual = NIZWARF_WANT_DEFAULT | NIZWARF_WANT_READDIRPLUS;
 	const uint64_t trunc = FUSE_ATOMIC_O_TRUNC;
 	static nizwarf_ops some;
-	uint8_t told[80];
+	uint8_t result[80];
 
 	added = 0;
 	expect_options(UINT64_MAX, usual);
 	/* (a client that offers all gets what one gets that offers just these: nothing else is told) */
-	memcpy(told + 16, ours + 16, 64);
+	memcpy(result + 16, ours + 16, 64);
 	expect_options(usual, usual);
-	CHECK(!memcmp(told + 16, ours + 16, 64));
+	CHECK(!memcmp(result + 16, ours + 16, 64));
 	declined = trunc | FUSE_MAX_PAGES;
 	expect_options(UINT64_MAX, usual & ~declined);
 	added = NIZWARF_WANT_ALLOW_IDMAP | locks;
@@ -466,15 +466,15 @@ static void options(void)
 	/* (cutting by OPEN wants `open`, WRITEBACK_CACHE wants `write`, SETXATTR_EXT `setxattr`) */
 	some.init = note_init;
 	table = &some;
-	expect_options(UINT64_MAX, NIZWARF_WANT_USUAL & ~trunc);
+	expect_options(UINT64_MAX, NIZWARF_WANT_DEFAULT & ~trunc);
 	some.open = note_open;
 	some.write = note_write;
-	expect_options(UINT64_MAX, NIZWARF_WANT_USUAL | FUSE_WRITEBACK_CACHE);
+	expect_options(UINT64_MAX, NIZWARF_WANT_DEFAULT | FUSE_WRITEBACK_CACHE);
 	some.setxattr = note_setxattr;
 	some.readdirplus = note_readdirplus;
 	expect_options(UINT64_MAX, usual | FUSE_WRITEBACK_CACHE | FUSE_SETXATTR_EXT);
 	table = &no_ops;
-	expect_options(UINT64_MAX, NIZWARF_WANT_USUAL & ~trunc);
+	expect_options(UINT64_MAX, NIZWARF_WANT_DEFAULT & ~trunc);
 	table = &ops;
 	added = FUSE_WRITEBACK_CACHE;
 }
@@ -482,7 +482,7 @@ static void options(void)
 /* `destroy` is called once for each INIT, by DESTROY or at the end. */
 static void ends(void)
 {
-	expect_options(UINT64_MAX, NIZWARF_WANT_USUAL | NIZWARF_WANT_READDIRPLUS | added);
+	expect_options(UINT64_MAX, NIZWARF_WANT_DEFAULT | NIZWARF_WANT_READDIRPLUS | added);
 	said[0] = 0;
 	nizwarf_end_ops(&ops, said, &session);
 	CHECK(!strcmp(said, "destroy 1") && !session.options);
@@ -522,8 +522,8 @@ static void wrong_answers(void)
 		failure = none[i];
 		expect_fault(EIO, NIZWARF_LOOKUP, &read, 0, "a", "lookup 2 a");
 	}
-	failure = NIZWARF_LAST_ERROR;
-	expect_fault(NIZWARF_LAST_ERROR, NIZWARF_LOOKUP, &read, 0, "a", "lookup 2 a");
+	failure = NIZWARF_MAX_ERRNO;
+	expect_fault(NIZWARF_MAX_ERRNO, NIZWARF_LOOKUP, &read, 0, "a", "lookup 2 a");
 	failure = 0;
 }
 
@@ -535,19 +535,21 @@ static void note_bad_error(void *user, const nizwarf_call *call, int error)
 {
 	CHECK(user == said);
 	bad_error = error;
-	bad_call = call->call;
+	bad_call = call->opcode;
 	bad_errors++;
 }
 
 /* A number that is no error of Linux is reported to the table, once for each reply, and no other number is. */
 static void reported_errors(void)
 {
-	static const int good[] = { 0, 1, ENOENT, NIZWARF_LAST_ERROR };
+	static const int good[] = { 0, 1, ENOENT, NIZWARF_MAX_ERRNO };
 	static const int bad[] = { 512, 600, INT32_MAX, -1, -ENOENT, INT32_MIN, NIZWARF_LATER };
 	const struct fuse_read_in read = { .fh = 4, .size = 4096 };
-	nizwarf_answer answer = NIZWARF_NO_ANSWER;
+	nizwarf_answer answer = NIZWARF_ANSWER_INIT;
 	nizwarf_ops some = ops;
-	nizwarf_call call = { .call = NIZWARF_UNLINK, .answer = NIZWARF_DONE, .room = 16, .unique = 7 };
+	nizwarf_call call = {
+		.opcode = NIZWARF_UNLINK, .reply = NIZWARF_REPLY_STATUS, .reply_size = 16, .unique = 7
+	};
 	size_t i, len;
 
 	some.bad_error = note_bad_error;
@@ -622,7 +624,7 @@ static void expect_unmade(uint32_t opcode, const void *record, size_t record_len
 	begin_with(opcode, 2, record, record_len);
 	add(name, strlen(name) + (*name != 0));
 	for (refused = 1; code != NIZWARF_OK; refused++) {
-		nizwarf_slot fresh = NIZWARF_NONE;
+		nizwarf_scratch fresh = NIZWARF_SCRATCH_INIT;
 
 		session.options = FUSE_BIG_WRITES;
 		asked = said[0] = 0;
@@ -632,7 +634,7 @@ static void expect_unmade(uint32_t opcode, const void *record, size_t record_len
 		CHECK((code == NIZWARF_OK) == (said[0] != 0));
 		/* (the session ends where DESTROY was called, and else not) */
 		CHECK((opcode != NIZWARF_DESTROY || !said[0]) == (session.options == FUSE_BIG_WRITES));
-		nizwarf_end_slot(&fresh);
+		nizwarf_scratch_free(&fresh);
 		CHECK(live == kept);
 	}
 	CHECK(refused > 2);
@@ -665,7 +667,7 @@ static void overlaps(void)
 		said[0] = 0;
 		CHECK(nizwarf_serve_ops(&ops, said, &slot, &session, both + at, request_len, both + 50, 144,
 					NULL, 0,
-					&len) == (at + request_len > 50 ? NIZWARF_NOT_ASKED : NIZWARF_OK));
+					&len) == (at + request_len > 50 ? NIZWARF_BAD_CALL : NIZWARF_OK));
 		CHECK(!said[0] == (at + request_len > 50));
 	}
 	memcpy(both + 194, request, request_len);
@@ -717,7 +719,7 @@ static void empty_table(void)
 
 	table = &no_ops;
 	for (opcode = 0; opcode < 52; opcode++) {
-		const int is_quiet = forms[opcode].kind == NIZWARF_QUIET;
+		const int is_quiet = forms[opcode].kind == NIZWARF_REPLY_NONE;
 
 		/* (no opcode; those of sessions, which follow; and one that nobody waits for) */
 		if (!forms[opcode].kind || opcode == NIZWARF_INIT || opcode == NIZWARF_DESTROY ||
@@ -754,7 +756,7 @@ int main(void)
 	no_memory();
 	overlaps();
 	conversions();
-	CHECK(nizwarf_end_slot(&slot) == NIZWARF_OK);
+	CHECK(nizwarf_scratch_free(&slot) == NIZWARF_OK);
 	puts("Each function of a table was called as it is asked for.");
 	return 0;
 }

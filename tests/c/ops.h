@@ -6,7 +6,7 @@
 #include <stdarg.h>
 #include "nizwarf_ops.h"
 #include "allocations.h"
-#include "door.h"
+#include "codec.h"
 
 /* The calls since the last request, as names and arguments; what each function returns: an error,
  * NIZWARF_LATER, or 0; and by how many bytes an answer is longer than what was requested. */
@@ -48,7 +48,7 @@ static int say(const char *format, ...)
 
 /* Serves what is in `request`: the functions that are called are these, with these arguments, and the reply
  * has this length. */
-static inline void expect_of(const nizwarf_ops *table, int32_t code, size_t space, nizwarf_item *items,
+static inline void expect_of(const nizwarf_ops *table, int32_t code, size_t space, nizwarf_dirent *items,
 			     size_t most, const char *words, size_t len)
 {
 	size_t reply_len;

@@ -1,4 +1,4 @@
-/* Requests in a file, for tests/c/door.c and tests/c/text.c: a line has a number, a blank, and the bytes as
+/* Requests in a file, for tests/c/codec.c and tests/c/text.c: a line has a number, a blank, and the bytes as
  * two digits each, with a `+` between pieces, as crates/test_sessions/stdin has them. */
 #ifndef C_RECORDED_H
 #define C_RECORDED_H

@@ -1,12 +1,7 @@
-"""The headers and the libraries by themselves: layout, languages, names, stack; and the records and numbers of the
+"""The headers and the libraries by themselves: languages, names, stack; and the records and numbers of the
 crates, which are those of the kernel's headers and of nizwarf.h."""
 import pytest
-from building import HERE, REPOSITORY, STRICT, need, run
-
-
-@pytest.mark.parametrize("headers", ["include", "tests/c/version-0.2"])
-def test_structs_are_laid_out_as_in_version_0_2(headers):
-    run("cc", *STRICT, "-pedantic", "-I", REPOSITORY / headers, "-fsyntax-only", HERE / "layout.c")
+from building import HERE, REPOSITORY, need, run
 
 
 def test_headers_compile_as_c99():
@@ -14,31 +9,47 @@ def test_headers_compile_as_c99():
         "-fsyntax-only", "-xc", "-", input='#include "nizwarf_ops.h"\n')
 
 
+@pytest.fixture(scope="session", params=["gcc", "clang"])
+def objects(request, libraries, tmp_path_factory):
+    """The C files of the library as objects of C99, compiled without a warning."""
+    need(request.param, request.param)
+    folder = tmp_path_factory.mktemp("objects")
+    run(request.param, "-std=c99", "-Wall", "-Wextra", "-Wpedantic", "-Wconversion", "-Werror", "-O2", "-I", REPOSITORY / "include",
+        "-c", *[it for it in libraries if it.endswith(".c")], cwd=folder)
+    return [*folder.glob("*.o")]
+
+
+@pytest.fixture(scope="session")
+def archives(libraries):
+    """The static libraries nizwarf_codec and nizwarf_tree, and the C code that both need."""
+    return [it for it in libraries if it.endswith(".a")]
+
+
 @pytest.mark.parametrize("standard", ["c++11", "c++20"])
 @pytest.mark.parametrize("compiler", ["g++", "clang++"])
-def test_headers_compile_and_link_in_cpp(libraries, tmp_path, compiler, standard):
+def test_headers_compile_and_link_in_cpp(objects, archives, tmp_path, compiler, standard):
     need(compiler, "g++ clang")
     run(compiler, f"-std={standard}", "-Wall", "-Wextra", "-Wpedantic", "-Wconversion", "-Werror", "-I",
-        REPOSITORY / "include", "-o", tmp_path / "linked", HERE / "linked.cc", *libraries)
+        REPOSITORY / "include", "-o", tmp_path / "linked", HERE / "linked.cc", *objects, *archives)
     run(tmp_path / "linked")
 
 
-def test_libraries_define_only_names_that_begin_with_nizwarf(libraries):
+def test_libraries_define_only_names_that_begin_with_nizwarf(objects, archives):
     # (three columns: address, kind, name)
-    rows = [it.split() for it in run("nm", "--defined-only", "--extern-only", *libraries[:2]).splitlines()]
+    rows = [it.split() for it in run("nm", "--defined-only", "--extern-only", *objects, *archives[:2]).splitlines()]
     names = {it[2] for it in rows if len(it) == 3}
     assert names and not [it for it in names if not it.startswith("nizwarf_")]
 
 
-def test_no_function_takes_64_kib_of_stack(libraries):
-    run(REPOSITORY / "tools/dev/stack.py", "--most", "65535", *libraries[:2])
+def test_no_function_takes_64_kib_of_stack(archives):
+    run(REPOSITORY / "tools/dev/stack.py", "--most", "65535", *archives[:2])
 
 
 def test_records_and_numbers_are_those_of_the_kernels_header():
     print(run(HERE / "kernel.py"))
 
 
-def test_data_of_the_door_is_that_of_nizwarf_h():
+def test_data_of_the_codec_is_that_of_nizwarf_h():
     print(run(HERE / "data.py"))
 
 

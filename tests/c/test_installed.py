@@ -4,7 +4,8 @@ import re
 import types
 
 import pytest
-from building import HERE, REPOSITORY, STRICT, need, run
+from building import REPOSITORY, STRICT, need, run
+from hello_client import check_hello
 
 pytestmark = pytest.mark.slow
 VERSION = """#include "nizwarf.h"
@@ -16,7 +17,7 @@ def packages(tmp_path_factory, libraries):
     """A folder into which tools/package.sh put its packages, beside those of an older version and of something else."""
     need("pkg-config", "pkg-config")
     folder = tmp_path_factory.mktemp("packages")
-    for name in ("libnizwarf0", "virtiofsd-nizwarf"):
+    for name in ("libnizwarf1", "virtiofsd-nizwarf"):
         (folder / f"{name}_0.1.deb").touch()
     print(run(REPOSITORY / "tools/package.sh", "--unproved", "--no-demo", "--out", folder, seconds=1800))
     return folder
@@ -63,7 +64,7 @@ def needed_by(program):
 
 
 def test_the_folder_of_packages_keeps_one_version_and_what_is_not_ours(packages):
-    assert not (packages / "libnizwarf0_0.1.deb").exists()
+    assert not (packages / "libnizwarf1_0.1.deb").exists()
     assert (packages / "virtiofsd-nizwarf_0.1.deb").exists()
 
 
@@ -72,22 +73,10 @@ def test_the_library_has_the_version_of_its_header(linked, tmp_path):
     run(linked.compile(tmp_path / "version.c"), env=linked.environment)
 
 
-def test_installed_examples_build_and_run(linked, examples, tmp_path):
+def test_installed_examples_build_and_run(linked, examples):
     run(examples / "serve", env=linked.environment)
-    client = tmp_path / "client"
-    run("cc", *STRICT, "-o", client, HERE / "hello.c")
-    run(client, examples / "hello", env=linked.environment)
-    assert ("libnizwarf.so.0" in needed_by(examples / "hello")) != linked.static
-
-
-def test_a_program_of_version_0_2_uses_each_function_of_its_header(linked):
-    older = linked.compile(HERE / "version-0.2/program.c")
-    run(older, env=linked.environment)
-    if not linked.static:
-        header = (HERE / "version-0.2/nizwarf.h").read_text()
-        declared = re.findall(r"^(?:u?int[0-9]+_t|size_t) (nizwarf_\w+)\(", header, re.M)
-        symbols = re.findall(r" (nizwarf_\S+)", run("nm", "-D", older))
-        assert declared and sorted(symbols) == sorted(f"{it}@NIZWARF_0.2" for it in declared)
+    check_hello(examples / "hello", env=linked.environment)
+    assert ("libnizwarf.so.1" in needed_by(examples / "hello")) != linked.static
 
 
 def test_the_installer_removes_all_that_it_installed(tmp_path, installed):

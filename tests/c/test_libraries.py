@@ -1,6 +1,7 @@
 """The libraries against their headers, by programs in C: the comment at the head of each says what it checks."""
 import pytest
 from building import COUNTED, HERE, REPOSITORY, run
+from hello_client import check_hello
 
 
 @pytest.fixture(scope="session")
@@ -26,7 +27,7 @@ def test_the_tree_replies_to_stored_sessions_as_they_say(built):
 
 
 def test_the_example_hello_serves_its_file(built):
-    run(built.compile("tests/c/hello.c"), built.make("hello"))
+    check_hello(built.make("hello"))
 
 
 def test_a_table_gets_each_request_with_its_arguments(built):
@@ -37,16 +38,16 @@ def test_a_table_has_one_session_for_several_threads(built_with_threads):
     run(built_with_threads.compile("tests/c/ops-threads.c", "-pthread"))
 
 
-def test_the_door_decodes_and_replies_as_the_server_over_the_tree_does(built, recorded):
-    run(built.compile("tests/c/door.c"), recorded, seconds=600)
+def test_the_codec_decodes_and_replies_as_the_server_over_the_tree_does(built, recorded):
+    run(built.compile("tests/c/codec.c"), recorded, seconds=600)
 
 
-def test_the_door_keeps_its_header_in_cases_that_no_server_shows(built):
-    run(built.compile("tests/c/door-cases.c", *COUNTED))
+def test_the_codec_keeps_its_header_in_cases_that_no_server_shows(built):
+    run(built.compile("tests/c/codec-cases.c", *COUNTED))
 
 
 def test_one_thread_may_reply_to_the_requests_of_another(built_with_threads):
-    run(built_with_threads.compile("tests/c/door-threads.c", "-pthread"))
+    run(built_with_threads.compile("tests/c/codec-threads.c", "-pthread"))
 
 
 def test_a_check_fails_as_the_decoder_does_and_a_printed_line_fits(built, recorded):
@@ -64,7 +65,3 @@ def test_optional_operations_are_decoded_and_replied_as_the_kernel_has_them(buil
 @pytest.mark.parametrize("name", ["notices", "init"])
 def test_records_of_notices_and_of_init_are_the_kernels(built, name):
     run(built.compile(f"tests/c/{name}.c"))
-
-
-def test_a_program_of_version_0_2_runs_with_todays_library(built):
-    run(built.compile("tests/c/version-0.2/program.c"))

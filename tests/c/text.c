@@ -18,7 +18,7 @@ enum { MOST = 1 << 16 }; /* bytes of a request */
 
 static unsigned long requests, lines;
 static size_t length; /* of the request that is held now */
-static nizwarf_slot slot = NIZWARF_NONE;
+static nizwarf_scratch slot = NIZWARF_SCRATCH_INIT;
 static unsigned char space[(1 << 20) + 4096]; /* a room of the largest size */
 
 /* A line in memory of each of some sizes is the beginning of the whole one, and nothing after it changes. `print`
@@ -75,23 +75,23 @@ static size_t reply_line(const void *of, char *text, size_t size)
 static void hold_check(const struct messages *m, size_t size)
 {
 	const nizwarf_session session = { m->options, 4096, 1 << 20 };
-	const nizwarf_segment piece = { m->request, m->len };
-	const nizwarf_room room = { space, size };
+	const struct iovec piece = { (void *)(uintptr_t)m->request, m->len };
+	const struct iovec room = { space, size };
 	nizwarf_call call, checked;
 	uint64_t interrupts;
 	long before;
-	nizwarf_told told;
+	nizwarf_result result;
 	int32_t code;
 
 	memset(&call, 0, sizeof(call)); /* so that both are equal in bytes that neither sets */
 	memset(&checked, 0, sizeof(checked));
-	code = nizwarf_ask(&slot, &session, &piece, 1, &room, 1, &call, &told);
+	code = nizwarf_decode(&slot, &session, 0, &piece, 1, &room, 1, &call, &result);
 	before = asked;
-	CHECK(nizwarf_check(&session, m->request, m->len, size, &checked, &interrupts) == code);
-	CHECK(!memcmp(&call, &checked, sizeof(call)) && interrupts == told.interrupts);
+	CHECK(nizwarf_check(&session, 0, m->request, m->len, size, &checked, &interrupts) == code);
+	CHECK(!memcmp(&call, &checked, sizeof(call)) && interrupts == result.interrupts);
 	/* (a check allocates for nothing else) */
-	CHECK(asked == before || checked.call == NIZWARF_BATCH_FORGET || checked.has & NIZWARF_HAS_CONTEXT ||
-	      code != NIZWARF_ASKED);
+	CHECK(asked == before || checked.opcode == NIZWARF_BATCH_FORGET ||
+	      checked.has & NIZWARF_HAS_CONTEXT || code != NIZWARF_CALL);
 }
 
 /* (in memory of just its length, so that a sanitizer sees a byte read after it) */
@@ -137,7 +137,7 @@ static void hold_examples(void)
 	CHECK(!strcmp(text, "-> no reply"));
 	nizwarf_print_reply(request, 43, &refused, sizeof(refused) - 1, text, sizeof(text));
 	CHECK(!strcmp(text, "-> refused=DecodeMessage"));
-	CHECK(nizwarf_check(NULL, request, 43, 0, NULL, NULL) == NIZWARF_NULL);
+	CHECK(nizwarf_check(NULL, 0, request, 43, 0, NULL, NULL) == NIZWARF_NULL);
 }
 
 /* A request's line under these options has these words. */
@@ -153,7 +153,7 @@ static int has_words(const unsigned char *request, size_t len, uint64_t options,
  * SECURITY_CTX (bit 32) and CREATE_SUPP_GROUP (bit 34) what is after a name. */
 static void hold_options(void)
 {
-	/* (blocks as in door-cases.c) */
+	/* (blocks as in codec-cases.c) */
 	static const uint32_t group[] = { 16, 32, 1, 4242 }, context[] = { 32, 1, 5, 0 };
 	static const uint32_t set[] = { 5, 0, 1, 0 };
 	const uint64_t ext = UINT64_C(1) << 29, contexts = UINT64_C(1) << 32, groups = UINT64_C(1) << 34;
@@ -203,7 +203,7 @@ int main(int count, char **words)
 				hold(request, at, options[i]);
 	}
 	fclose(file);
-	nizwarf_end_slot(&slot);
+	nizwarf_scratch_free(&slot);
 	CHECK(requests > 0 && live == 0);
 	printf("%lu lines of messages, and a check as each ask.\n", lines);
 	return 0;

@@ -10,7 +10,7 @@
 #include <stdarg.h>
 #include <string.h>
 #include "allocations.h"
-#include "nizwarf.h"
+#include "nizwarf_tree.h"
 #define CASE "line %u: %s\n", number, asked_for
 #include "check.h"
 
@@ -63,7 +63,7 @@ static union {
 	struct fuse_out_header header;
 	uint8_t bytes[ROOM];
 } reply;
-static nizwarf_server server = NIZWARF_NONE;
+static nizwarf_server server = NIZWARF_SERVER_INIT;
 
 /* A line with another word is a fault of the file, and ends the program. */
 static const struct opcode *opcode_of(const char *name)
@@ -122,21 +122,21 @@ static char *next(char **rest)
 /* A new tree with the limits that the line says, in place of the one that is there. */
 static void begin(char **rest)
 {
-	nizwarf_settings settings = { .seconds = 7, .mode = 0755 };
+	nizwarf_server_config settings = { .seconds = 7, .mode = 0755 };
 
 	settings.nodes = number_in(next(rest));
 	settings.bytes = number_in(next(rest));
 	settings.file = number_in(next(rest));
 	CHECK(!next(rest));
-	CHECK(nizwarf_new(&server, 4096, 1 << 20, &settings) == NIZWARF_OK);
+	CHECK(nizwarf_server_new(&server, 4096, 1 << 20, &settings) == NIZWARF_OK);
 }
 
 /* Asks what is before `=`. Gives the reply's length. */
 static size_t ask(const char *name, char **rest)
 {
 	const struct opcode *op = opcode_of(name);
-	const nizwarf_room room = { reply.bytes, ROOM };
-	nizwarf_segment whole = { request.bytes, 0 };
+	const struct iovec room = { reply.bytes, ROOM };
+	struct iovec whole = { request.bytes, 0 };
 	size_t end = sizeof(request.header) + op->record, at = sizeof(request.header), len;
 	const char *word;
 
@@ -154,9 +154,9 @@ static size_t ask(const char *name, char **rest)
 		CHECK(at < MOST - LINE);
 		at += put_piece(request.bytes + at, word);
 	}
-	whole.len = at < end ? end : at;
-	request.header.len = (uint32_t)whole.len;
-	CHECK(nizwarf_message(&server, &whole, 1, &room, 1, &len) == NIZWARF_OK);
+	whole.iov_len = at < end ? end : at;
+	request.header.len = (uint32_t)whole.iov_len;
+	CHECK(nizwarf_server_handle(&server, &whole, 1, &room, 1, &len) == NIZWARF_OK);
 	return len;
 }
 
@@ -260,7 +260,7 @@ int main(int count, char **words)
 	gone(0, end);
 	gone(17, again);
 	/* (`live` counts the library's allocations) */
-	CHECK(nizwarf_end(&server) == NIZWARF_OK && live == 0);
+	CHECK(nizwarf_server_free(&server) == NIZWARF_OK && live == 0);
 	printf("The tree replied to %u steps of sessions as it should.\n", steps);
 	return 0;
 }

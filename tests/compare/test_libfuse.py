@@ -49,7 +49,7 @@ def theirs():
 def compile_with_layer(ours, tmp_path):
     """Compiles a source with that of libfuse over this layer: compile_with_layer(SOURCE, FLAG..) returns the program."""
     def compile_one(source, *flags):
-        shell('find_library nizwarf_door; compile_libfuse "$@"', FOLDER, SUITE, source, tmp_path / "program", *flags)
+        shell('find_library nizwarf_codec; compile_libfuse "$@"', FOLDER, SUITE, source, tmp_path / "program", *flags)
         return tmp_path / "program"
 
     return compile_one
@@ -90,7 +90,7 @@ def test_four_processes_in_a_mount_race_with_nothing_of_this_layer(compile_with_
         workers = [subprocess.Popen(["bash", "-euc", WORK, str(it)], cwd=tmp_path) for it in range(4)]
         assert [it.wait(300) for it in workers] == [0] * 4
     reports = "".join(it.read_text() for it in tmp_path.glob("report*"))
-    assert not re.findall(r"^SUMMARY.*/(?:requests|replies|notices|door|listings|interrupts)\.h.*", reports, re.M)
+    assert not re.findall(r"^SUMMARY.*/(?:requests|replies|notices|codec|listings|interrupts)\.h.*", reports, re.M)
 
 
 @pytest.mark.parametrize("program", PROGRAMS)

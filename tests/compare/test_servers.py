@@ -34,12 +34,6 @@ def compiled(program, source, *flags):
     return program
 
 
-@pytest.fixture
-def ask(scratch):
-    """The front end over vhost-user that prints the reply to each line that it reads."""
-    return compiled(scratch / "ask", "tests/lib/ask.c")
-
-
 def virtiofsd(suite="trixie", folder=None):
     """The command of the virtiofsd of a suite of Debian, by its own loader and libraries."""
     script = 'need_x86_64; find_virtiofsd "$1" "$2" >&2; printf "%s\\n" "$version" "${virtiofsd[@]}"'
@@ -56,10 +50,10 @@ def package_version(suite):
 
 
 @pytest.fixture
-def servers(ask, scratch):
+def servers(scratch):
     """The servers, each as a line for servers/others.py. Those that cannot be had or built are left out."""
     suite = SUITE or "sid"
-    library = find_library("nizwarf_door")
+    library = find_library("nizwarf_codec")
     built, work = OUT / f"servers-{suite}", OUT / f"work.{os.getpid()}"
     built.mkdir(parents=True, exist_ok=True)
     version = ".".join(re.findall(r"^#define NIZWARF_VERSION_(?:MAJOR|MINOR|PATCH) (\d+)$",
@@ -77,12 +71,13 @@ def servers(ask, scratch):
         check = compiled(scratch / "check", "examples/c/check.c", *library, *SANITIZED)
         lines.append(("pair", "libfuse behind the check", lines[1][2], check, "DESCRIPTOR", built / "libfuse"))
     if ONLY in "libfuse over this layer" and shutil.which("meson") and shutil.which("ninja"):
-        shell('tools/libfuse.sh --suite "$2" "$1" >&2; find_library nizwarf_door; compile_libfuse "$@"', OUT / "libfuse", suite,
+        shell('tools/libfuse.sh --suite "$2" "$1" >&2; find_library nizwarf_codec; compile_libfuse "$@"', OUT / "libfuse", suite,
               HERE / "libfuse.c", scratch / "layer", *SANITIZED)
         version = (OUT / f"libfuse/source-{suite}/debian-version").read_text().strip()
         lines.append(("pair", "libfuse over this layer", version, scratch / "layer", "DESCRIPTOR"))
     for it in sorted({"trixie", suite}) if ONLY in "virtiofsd" else ():
-        lines.append(("vhost", "virtiofsd", package_version(it), ask, *virtiofsd(it), *OPTIONS))
+        command = virtiofsd(it)  # (it unpacks the package, which has the version)
+        lines.append(("vhost", "virtiofsd", package_version(it), *command, *OPTIONS))
     (scratch / "servers").write_text("".join("\t".join(map(str, line)) + "\n" for line in lines if ONLY in line[1]))
     return scratch / "servers"
 
@@ -91,17 +86,16 @@ def test_no_hostile_session_ends_or_misleads_a_server_over_this_layer(servers, s
     python(HERE / "others.py", "--seed", seed, "--count", requests(300), servers, scratch)
 
 
-def test_hostile_requests_come_to_the_known_kinds_here_and_at_virtiofsd(ask, scratch):
+def test_hostile_requests_come_to_the_known_kinds_here_and_at_virtiofsd(scratch):
     suite = SUITE or "trixie"
     command = virtiofsd(suite)
-    python(HERE / "beside.py", "show" if SUITE else "compare", ask, built_program("vhost"), scratch,
+    python(HERE / "beside.py", "show" if SUITE else "compare", built_program("vhost"), scratch,
            f"Debian's package {package_version(suite)} of virtiofsd", *command, *OPTIONS)
 
 
 def test_options_do_what_they_do_at_virtiofsd(share, scratch):
-    ask = compiled(scratch / "ask", "tests/lib/ask.c", "-DPATIENCE=600")
     (scratch / "words").mkdir()
-    words = [REPOSITORY / "tests/share/words.py", ask, scratch / "words"]
+    words = [REPOSITORY / "tests/share/words.py", scratch / "words"]
     python(*words, os.environ.get("WORDS", "--compare"), *virtiofsd(), "--sandbox=none", "--seccomp=none", "--log-level=off",
            seconds=300)
     python(*words, "--known", share, "--log-level=warn", seconds=300)
@@ -117,9 +111,9 @@ def test_virtiofsd_over_this_layer_passes_its_own_tests(with_layer):
     assert os.access(with_layer, os.X_OK)
 
 
-def test_virtiofsd_over_this_layer_migrates_to_virtiofsd_and_back(ask, scratch, with_layer):
-    python(HERE / "migrated.py", ask, scratch, with_layer, *virtiofsd(folder=VIRTIOFSD / "debian"))
+def test_virtiofsd_over_this_layer_migrates_to_virtiofsd_and_back(scratch, with_layer):
+    python(HERE / "migrated.py", scratch, with_layer, *virtiofsd(folder=VIRTIOFSD / "debian"))
 
 
-def test_virtiofsd_over_this_layer_replies_as_virtiofsd(ask, scratch, with_layer, requests, seed):
-    python(HERE / "replaced.py", ask, scratch, seed, requests(20000), with_layer, *virtiofsd(folder=VIRTIOFSD / "debian"))
+def test_virtiofsd_over_this_layer_replies_as_virtiofsd(scratch, with_layer, requests, seed):
+    python(HERE / "replaced.py", scratch, seed, requests(20000), with_layer, *virtiofsd(folder=VIRTIOFSD / "debian"))

@@ -83,7 +83,7 @@ def test_the_tree_is_as_a_tmpfs(compare, suite):
 
 @pytest.mark.parametrize("suite", suites.ABOUT)
 def test_a_shared_directory_is_as_the_directory(compare, suite):
-    share = built_program("share", "nizwarf_door", *SANITIZER)
+    share = built_program("share", "nizwarf_codec", *SANITIZER)
     # (the filter of system calls lacks those of a sanitizer)
     common = [share, "-o", "allow_other,suid,dev", "--xattr", "--log-level=warn",
               *["--sandbox=none", "--seccomp=none"] * bool(SANITIZER)]

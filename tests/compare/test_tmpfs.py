@@ -39,7 +39,7 @@ def compare(requests, seed, tmpfs):
 
 
 def test_requests_to_the_library_over_the_tree(compare, tmp_path):
-    archive, code = find_library("nizwarf_tree")
+    *_, archive, code = find_library("nizwarf_tree")
     run("cc", "-shared", "-o", tmp_path / "library.so", "-Wl,--whole-archive", archive, "-Wl,--no-whole-archive", code)
     compare("requests", "library", tmp_path / "library.so")
 

@@ -186,7 +186,7 @@ def check_block(fault, language, comment, block):
         for line in set(block.splitlines()) - set(read(path).splitlines()):
             fault(f"{path} has no line {line}")
     elif language == "mermaid":
-        for name in set(re.findall(r"\b(?:vfs|fs|laws|door|nizwarf)_\w+", block)) - CRATE_NAMES:
+        for name in set(re.findall(r"\b(?:vfs|fs|laws|codec|nizwarf)_\w+", block)) - CRATE_NAMES:
             fault(f"there is no crate {name}")
     elif language:
         fault("no comment <!-- FILE --> above this block says where it stands")
@@ -227,19 +227,19 @@ order = read("docs/PROMISE.md").split("## Reading order")[1].split("\n## ")[0]
 # The last item is the trait's contract, a premise.
 check_order(lambda text: faults.append(f"docs/PROMISE.md: {text}"), "\n".join(re.findall(r"^\d\. .*", order, re.M)[:-1]))
 # What is reached from IsSession, a line for each file; the count, and what is held otherwise.
-*reached, counted, decoded = subprocess.run(["tools/measure/statement.sh", "--files"], capture_output=True, text=True,
+*reached, counted, decoded = subprocess.run(["tools/measure/statement.py", "--files"], capture_output=True, text=True,
                                             check=True).stdout.splitlines()
 COUNTS = re.compile(r"(\d+) definitions,? (?:of )?([\d,]+) lines")
 # What is told by how much more it is than the session, or than these other definitions too, and begins with these.
-DOOR = ["nizwarf_door/Turns.IsAskedOrNot", "nizwarf_door/Turns.IsAnsweredOrNot", "nizwarf_door/Kept.KeepsAnswers",
-        "nizwarf_door/Kept.StaysFor", "nizwarf_door/Kept.HoldsIfTold", "nizwarf_door/Kept.HoldsForOthers"]
+DOOR = ["nizwarf_codec/Turns.IsAskedOrNot", "nizwarf_codec/Turns.IsAnsweredOrNot", "nizwarf_codec/Kept.KeepsAnswers",
+        "nizwarf_codec/Kept.StaysFor", "nizwarf_codec/Kept.HoldsIfTold", "nizwarf_codec/Kept.HoldsForOthers"]
 BESIDE = [("the clause `memory`", [], ["vfs_server/Sparing.IsSparing"]),
           ("one message", [], ["vfs_server/Step.IsStep", "vfs_server/Step.ReadsDirectories"]),
-          ("the door", [], DOOR),
-          ("its clauses", DOOR, ["nizwarf_door/Session.limits_of", "nizwarf_door/Session.options_of",
-                                 "nizwarf_door/Shown.shown_in", "vfs_grammar/Limits.AreLimits",
-                                 "nizwarf_door/Clauses.AnswersNoServer", "nizwarf_door/Clauses.AsksNoServer",
-                                 "nizwarf_door/Clauses.ChecksNoServer", "nizwarf_door/Clauses.AnswersTurn"]),
+          ("the codec", [], DOOR),
+          ("its clauses", DOOR, ["nizwarf_codec/Session.limits_of", "nizwarf_codec/Session.options_of",
+                                 "nizwarf_codec/Shown.shown_in", "vfs_grammar/Limits.AreLimits",
+                                 "nizwarf_codec/Clauses.AnswersNoServer", "nizwarf_codec/Clauses.AsksNoServer",
+                                 "nizwarf_codec/Clauses.ChecksNoServer", "nizwarf_codec/Clauses.AnswersTurn"]),
           ("flights", DOOR, ["laws_flight/Flight.turns_answered", "laws_flight/Flight.AreInFlight",
                              "laws_flight/Flight.AreAskedInTime", "vfs_grammar/Turn.AreTurns",
                              "laws_flight/Made.NoCountIsBelow", "laws_flight/Running.FlightsRun",
@@ -248,7 +248,7 @@ BESIDE = [("the clause `memory`", [], ["vfs_server/Sparing.IsSparing"]),
 
 def counted_with(starts):
     """What is reached from IsSession and these, a line for each file, and how many definitions and lines."""
-    *files, ends = subprocess.run(["tools/measure/statement.sh", "--files", "vfs_server/Session.IsSession", *starts],
+    *files, ends = subprocess.run(["tools/measure/statement.py", "--files", "vfs_server/Session.IsSession", *starts],
                                   capture_output=True, text=True, check=True).stdout.splitlines()[:-1]
     return files, [int(it) for it in COUNTS.search(ends).groups()]
 
@@ -310,7 +310,7 @@ COUNT = r"(\d+) definitions of ([\d,]+) lines(?: in (\d+) files, and (\d+) types
 for page in ("README.md", "docs/PROMISE.md"):
     said = [it.replace(",", "") for it in re.search(COUNT, read(page)).groups() if it]
     if said != re.findall(r"\d+(?= (?:definitions|lines|files|types))", counted)[:len(said)]:
-        faults.append(f"{page}: tools/measure/statement.sh counts otherwise: {counted}")
+        faults.append(f"{page}: tools/measure/statement.py counts otherwise: {counted}")
 # Each crate has a place and a README.
 families = re.findall(r"^\| ([a-z][^|]*) \| ([^|]*) \|$",
                       read("docs/ARCHITECTURE.md").split("| Family |")[1].split("\n\n")[0], re.M)
@@ -342,10 +342,11 @@ VERSIONS = {
     "include/nizwarf.h": r"^#define NIZWARF_VERSION_(?:MAJOR|MINOR|PATCH) (\d+)$",
     "bindings/rust/Cargo.toml": r'^version = "([^"]+)"',
     "bindings/rust/Cargo.lock": r'^name = "nizwarf"\nversion = "([^"]+)"',
-    "crates/nizwarf_door/src/lib.rt": r"nizwarf_version\(\)[^{]*{[^}]*}\s*{\s*0x0*(\w\w?)_(\w\w)(\w\w)\s*}",
+    "crates/nizwarf_codec/src/lib.rt": r"nizwarf_version\(\)[^{]*{[^}]*}\s*{\s*0x0*(\w\w?)_(\w\w)(\w\w)\s*}",
     # (of the minor version: what is new in it, what the crate wants, and what who builds it writes)
     "packaging/nizwarf.map": r"(?s).*^NIZWARF_(\S+) {",
     "bindings/rust/build.rs": r'">= ([^"]+)"',
+    "bindings/python/pyproject.toml": r'^version = "([^"]+)"',
     "bindings/rust/README.md": r'^nizwarf = { version = "([^"]+)"',
 }
 version = None

@@ -16,7 +16,7 @@
 #                       <!-- FILE -->; of another block with such a comment each line does
 #   commands            a path that begins an indented line is a file that can be run
 #   the reading order   of PROMISE.md: no file, but of the last item, names a word of a later one; its
-#                       counts are those of tools/measure/statement.sh, of which each file is there, with what is of
+#                       counts are those of tools/measure/statement.py, of which each file is there, with what is of
 #                       the promise above a line that says so, or named in its first comment; the key has each sign
 #                       that one of its files has, and it or Session.antt each word of the toolchain's library
 #   counts              of opcodes, calls of a file system, records, stored requests and hostile forms are those

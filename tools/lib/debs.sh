@@ -4,9 +4,8 @@
 
 # shellcheck disable=SC2034,SC2154
 packaging=$here/packaging architecture=amd64
-# The version, as MAJOR.MINOR.PATCH, and the name that programs need at run time.
+# The version, as MAJOR.MINOR.PATCH.
 release=$(sed -nE 's/^#define NIZWARF_VERSION_(MAJOR|MINOR|PATCH) ([0-9]+)$/\2/p' "$here/include/nizwarf.h" | paste -sd .)
-soname=libnizwarf.so.${release%%.*}
 # The time of the last commit; in sources that are no clone, that of their changes.
 SOURCE_DATE_EPOCH=${SOURCE_DATE_EPOCH:-$(git -C "$here" log -1 --format=%ct 2> /dev/null || stat -c %Y "$here/CHANGELOG.md")}
 export SOURCE_DATE_EPOCH
@@ -128,7 +127,7 @@ depends_of() {
             case $name in
                 # Of the C library the greatest version of a symbol, at the end.
                 libc.so.6) objdump -T "$file" | sed -nE 's/.*GLIBC_([0-9.]+).*/\1/p' >> "$glibc" ;;
-                "$soname") echo "libnizwarf0 (>= $release~)" ;;
+                "$soname") echo "libnizwarf1 (>= $release~)" ;;
                 ld-linux*) ;;
                 # (the first line, as `libcap-ng0:amd64: /lib/..`, up to the architecture or the next package)
                 *) dpkg-query -S "*/$name" | sed 's/[:,].*//;q' || wrong "no package of Debian has $name, which ${file##*/} needs." ;;

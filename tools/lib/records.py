@@ -45,11 +45,6 @@ def comment_of(record):
     return re.sub(r"\s*\n/// ?", " ", found[1]) if found else ""
 
 
-def struct_of(name):
-    """The struct of fuse.h that a table is, by the comment of its record."""
-    return re.search(r"`struct (fuse_\w+)`", comment_of(TABLES[name][0]))[1]
-
-
 # Definitions that copy a record, each field into the one of its name, and records of zeros: with their lines of fields.
 COPIED = r"^abbrev pub (\w+) : (\w+) → (\w+)\n\1 (?:\w) = record \{\n((?:  (\w+) = \w\.\5;\n)+)\}$"
 ZEROS = r"^abbrev pub (\w+) : (\w+)\n\1 = record \{((?:\s+«?\w+»? = (?:0|pos 0|no_\w+);?)+)\s+\}$"

@@ -3,9 +3,16 @@
 # shellcheck shell=bash
 . "$(dirname "${BASH_SOURCE[0]}")/program.sh"
 
-# Sets `library` to the library, which is nizwarf_tree where no name is given, and what it needs:
-# find_library [NAME]. That is the proved one where it is built and no source is newer; otherwise
-# tools/lib/unproved.sh builds it without a proof. It says which one it is.
+# The name that programs need at run time. Its number is above that of each version whose programs do not run with this
+# one.
+# shellcheck disable=SC2034
+soname=libnizwarf.so.1
+
+# Sets `library` to what a program links, in order: find_library [NAME], which is nizwarf_tree where none is given. These
+# are the C files of the library, in `sources`, which are compiled with the program and its flags, as those of sanitizers;
+# the static library of the crate, in `archive`; and the C code that this needs, in `heap`. The static library is the proved
+# one where it is built and no source is newer; otherwise tools/lib/unproved.sh builds it without a proof. It says which one
+# it is.
 find_library() {
     local name=${1:-nizwarf_tree}
     local built=$here/crates/$name/out/lib$name.a
@@ -22,7 +29,32 @@ find_library() {
         "$here/tools/lib/unproved.sh" "$name"
         echo "The library $name is built without a proof, and up to five times slower; \`rt lib\` in crates/$name proves it." >&2
     fi
-    library=("$built" "$(dirname "$(rt doc)")/c/liblibc_c.a")
+    # (a library of tools/new-library.sh has the header of nizwarf_tree)
+    case $name in
+        nizwarf_codec) sources=("$here"/lib/{codec,messages,convert,ops}.c) ;;
+        nizwarf_border) sources=() ;;
+        *) sources=("$here/lib/server.c") ;;
+    esac
+    archive=$built heap=$(dirname "$(rt doc)")/c/liblibc_c.a
+    library=("${sources[@]}" "$archive" "$heap")
+}
+
+# Compiles the C files in `sources` as objects into a folder: compile_sources FOLDER FLAGS..
+compile_sources() {
+    local file
+    for file in "${sources[@]}"; do
+        cc -std=c11 -fPIC -Wall -Wextra -Werror "${@:2}" -I "$here/include" -c -o "$1/$(basename "$file" .c).o" "$file" || return
+    done
+}
+
+# Links the shared library of nizwarf_codec into a folder, by the names that it has when it is installed: link_shared FOLDER
+link_shared() {
+    local sources archive heap library
+    find_library nizwarf_codec
+    rm -f "$1"/libnizwarf.so*
+    cc -std=c11 -O2 -fPIC -Wall -Wextra -Werror -I "$here/include" -shared -o "$1/$soname" -Wl,-soname,"$soname" -Wl,-z,defs \
+        "${sources[@]}" -Wl,--whole-archive "$archive" -Wl,--no-whole-archive "$heap" || return
+    ln -s "$soname" "$1/libnizwarf.so"
 }
 
 # Whether the proved library is there, and as new as its sources: is_proved NAME
@@ -56,18 +88,18 @@ library_kind() {
     echo "with the proved library"
 }
 
-# Adds nizwarf_door to `library`, which prints messages.
-link_door() {
-    local others=("${library[@]}")
-    find_library nizwarf_door
-    library=("${library[0]}" "${others[@]}")
+# Adds nizwarf_codec to `library`, which prints messages.
+link_codec() {
+    local others=("${library[@]}") sources archive heap
+    find_library nizwarf_codec
+    library=("${sources[@]}" "$archive" "${others[@]}")
 }
 
 # Sets `border` to the static library that nizwarf-share and nizwarf-vhost want besides.
 find_border() {
-    local library
+    local library sources archive heap
     find_library nizwarf_border
-    border=${library[0]}
+    border=$archive
 }
 
 # Tells if nizwarf-share would have no filter of system calls.
@@ -92,7 +124,7 @@ build_transport() {
     find_library "$of"
     [ "$name" = mount ] || find_border
     if [ "$name" != share ]; then
-        link_door
+        link_codec
     else
         tell_of_filter
     fi

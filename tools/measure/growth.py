@@ -8,6 +8,8 @@ import subprocess
 import sys
 import time
 
+from pace import Front
+
 # Numbers of files and of names in a folder; of queues, of requests in flight, of machines.
 SIZES = 1_000, 10_000, 100_000, 1_000_000, 3_000_000
 FOLDERS = 10, 1_000, 100_000, 1_000_000
@@ -23,7 +25,7 @@ def say(what):
     print(f"{time.strftime('%H:%M:%S')} {what}", file=sys.stderr)
 
 
-class Daemon:
+class Daemon(Front):
     """A daemon, with a front end that asks it."""
 
     def __init__(self, name, words, queues=1):
@@ -47,37 +49,13 @@ class Daemon:
             if end:
                 end.close()
 
-    def send(self, kind, depth, count):
-        """Begins a class of requests; take() waits for its end."""
-        self.front.stdin.write(f"{kind} {depth} {count}\n")
-        self.front.stdin.flush()
-
     def take(self):
-        """Nanoseconds by the clock, and those of the processor."""
-        line = self.front.stdout.readline()
-        if not line:
-            sys.exit(f"{self.name} can't be asked")
-        return tuple(int(word) for word in line.split()[:2])
-
-    def ask(self, kind, depth, count):
-        """A class of requests, up to their end."""
-        self.send(kind, depth, count)
-        return self.take()
+        return super().take() or sys.exit(f"{self.name} can't be asked")
 
     def memory(self):
         """The bytes that are its own."""
         with open(f"/proc/{self.process.pid}/status", encoding="utf-8") as file:
             return next(int(line.split()[1]) * 1024 for line in file if line.startswith("RssAnon"))
-
-    def end(self):
-        """Ends both: the front end by the end of its input, the daemon by that or by a signal."""
-        self.front.stdin.close()
-        self.front.wait()
-        try:
-            self.process.wait(2)
-        except subprocess.TimeoutExpired:
-            self.process.terminate()
-            self.process.wait()
 
 
 def words_of(name, pool=0):
@@ -167,7 +145,7 @@ def rate(asked):
         daemon.send("getattr", depth, REQUESTS)
     taken = [daemon.take() for daemon, _ in asked]
     # (nanoseconds: times a million is thousands a second; all are done once the slowest is)
-    return len(asked) * REQUESTS / max(wall for wall, _ in taken) * 1e6, sum(ran for _, ran in taken) / len(asked) / REQUESTS / 1000
+    return len(asked) * REQUESTS / max(wall for wall, *_ in taken) * 1e6, sum(ran for _, ran, _ in taken) / len(asked) / REQUESTS / 1000
 
 
 def in_flight(name, queues, pool):

@@ -28,7 +28,7 @@ if [ $# -gt 1 ] || ! [[ $most =~ ^[1-9][0-9]{3,6}$ ]] || [ "$most" -gt 3000000 ]
     echo "Usage: tools/measure/growth.sh [--unproved] [MOST], of 1000 to 3000000 files" >&2
     exit 2
 fi
-need_proved "$unproved" nizwarf_door nizwarf_border
+need_proved "$unproved" nizwarf_codec nizwarf_border
 need_root "Daemons that open files by handles are started as root"
 for command in python3 cc dpkg-deb; do
     need "$command" "Install it."
@@ -36,7 +36,7 @@ done
 own_mounts "${given[@]}"
 get_passthrough
 find_virtiofsd trixie "$here/out/beside/trixie"
-build_transport share nizwarf_door
+build_transport share nizwarf_codec
 folder=$here/out/c
 cc -std=c11 -O2 -Wall -Wextra -Werror -o "$folder/pace" "$here/tools/measure/pace.c"
 # shellcheck disable=SC2119
@@ -44,6 +44,6 @@ own_work
 # (no limit of inodes: each file is one)
 mount -t tmpfs -o nr_inodes=0,size=90% growth "$work"
 echo "Measured on $(LC_ALL=C date '+%-d %B %Y') at commit $(git -C "$here" describe --always --dirty --exclude '*'), \
-$(library_kind nizwarf_door nizwarf_border); Linux $(uname -r), $(nproc) processors, load $(cut -d ' ' -f 1-3 /proc/loadavg); \
+$(library_kind nizwarf_codec nizwarf_border); Linux $(uname -r), $(nproc) processors, load $(cut -d ' ' -f 1-3 /proc/loadavg); \
 $version, libfuse $(head -n 1 "$beside/versions")."
 python3 -B "$here/tools/measure/growth.py" "$folder/pace" "$work" "$most" "$transport" "$beside/passthrough_ll" "${virtiofsd[@]}"

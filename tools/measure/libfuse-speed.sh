@@ -38,12 +38,12 @@ if ! [[ $rounds =~ ^[1-9][0-9]*$ ]] || [ $# -gt 2 ]; then
     echo "Usage: tools/measure/libfuse-speed.sh [--unproved] [--mount [--one] [--classes LIST]] [ROUNDS [FOLDER]]" >&2
     exit 2
 fi
-need_proved "$unproved" nizwarf_door
+need_proved "$unproved" nizwarf_codec
 folder=$(realpath -m "${2:-$here/out/libfuse}")
 ours=$("$here/tools/libfuse.sh" "$folder")
 theirs=$("$here/tools/libfuse.sh" --unmodified "$folder")
 suite=$(sed -n 's/^VERSION_CODENAME=//p' /etc/os-release)
-measured="Measured at commit $(git -C "$here" describe --always --dirty --exclude '*'), $(library_kind nizwarf_door)."
+measured="Measured at commit $(git -C "$here" describe --always --dirty --exclude '*'), $(library_kind nizwarf_codec)."
 if [ -n "$mount" ]; then
     need_root "It mounts"
     own_mounts "${given[@]}"

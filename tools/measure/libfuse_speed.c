@@ -20,6 +20,9 @@
 /* Sizes in bytes; ENTRIES is how many items a directory has. */
 enum { MEGABYTE = 1 << 20, PAGE = 4096, FRONT = sizeof(struct fuse_in_header), ENTRIES = 100 };
 
+/* (not each function looks at all that it is handed) */
+#pragma GCC diagnostic ignored "-Wunused-parameter"
+
 static char data[MEGABYTE], room[MEGABYTE + PAGE]; /* what is answered; the request */
 static size_t replied;
 
@@ -29,7 +32,6 @@ static ssize_t take_reply(int fd, struct iovec *iov, int count, void *user)
 	ssize_t len = 0;
 	int i;
 
-	(void)fd, (void)user;
 	for (i = 0; i < count; i++)
 		len += (ssize_t)iov[i].iov_len;
 	replied++;
@@ -39,37 +41,10 @@ static ssize_t take_reply(int fd, struct iovec *iov, int count, void *user)
 /* (requests are handed over: the session receives none) */
 static ssize_t no_request(int fd, void *at, size_t len, void *user)
 {
-	(void)fd, (void)at, (void)len, (void)user;
 	return 0;
 }
 
 static const struct fuse_entry_param entry = { .ino = 2, .attr = { .st_ino = 2, .st_mode = S_IFREG | 0644 } };
-
-/* The functions answer at once, by the same data. */
-static void on_lookup(fuse_req_t req, fuse_ino_t parent, const char *name)
-{
-	(void)parent, (void)name;
-	fuse_reply_entry(req, &entry);
-}
-
-static void on_getattr(fuse_req_t req, fuse_ino_t ino, struct fuse_file_info *fi)
-{
-	(void)ino, (void)fi;
-	fuse_reply_attr(req, &entry.attr, 1.0);
-}
-
-static void on_read(fuse_req_t req, fuse_ino_t ino, size_t size, off_t off, struct fuse_file_info *fi)
-{
-	(void)ino, (void)off, (void)fi;
-	fuse_reply_buf(req, data, size);
-}
-
-static void on_write(fuse_req_t req, fuse_ino_t ino, const char *buf, size_t size, off_t off,
-		     struct fuse_file_info *fi)
-{
-	(void)ino, (void)buf, (void)off, (void)fi;
-	fuse_reply_write(req, size);
-}
 
 /* (laid out anew each time, as a file system does) */
 static void list(fuse_req_t req, size_t size, int plus)
@@ -89,26 +64,27 @@ static void list(fuse_req_t req, size_t size, int plus)
 	fuse_reply_buf(req, data, len);
 }
 
-static void on_readdir(fuse_req_t req, fuse_ino_t ino, size_t size, off_t off, struct fuse_file_info *fi)
-{
-	(void)ino, (void)off, (void)fi;
-	list(req, size, 0);
-}
+/* clang-format off */
 
-static void on_readdirplus(fuse_req_t req, fuse_ino_t ino, size_t size, off_t off, struct fuse_file_info *fi)
-{
-	(void)ino, (void)off, (void)fi;
-	list(req, size, 1);
-}
+#define REQ fuse_req_t req, fuse_ino_t ino
+#define PIECE size_t size, off_t off, struct fuse_file_info *fi
 
-static const struct fuse_lowlevel_ops ops = {
-	.lookup = on_lookup,
-	.getattr = on_getattr,
-	.read = on_read,
-	.write = on_write,
-	.readdir = on_readdir,
-	.readdirplus = on_readdirplus,
-};
+/* The functions answer at once, by the same data. */
+#define OPS(F) \
+	F(lookup, (REQ, const char *name), fuse_reply_entry(req, &entry)) \
+	F(getattr, (REQ, struct fuse_file_info *fi), fuse_reply_attr(req, &entry.attr, 1.0)) \
+	F(read, (REQ, PIECE), fuse_reply_buf(req, data, size)) \
+	F(write, (REQ, const char *buf, PIECE), fuse_reply_write(req, size)) \
+	F(readdir, (REQ, PIECE), list(req, size, 0)) \
+	F(readdirplus, (REQ, PIECE), list(req, size, 1))
+
+#define DEFINE(name, parameters, reply) static void on_##name parameters { reply; }
+OPS(DEFINE)
+
+#define IN_TABLE(name, ...) .name = on_##name,
+static const struct fuse_lowlevel_ops ops = { OPS(IN_TABLE) };
+
+/* clang-format on */
 
 /* Puts a request with a record, and `more` bytes of data after it, which are what is there: its length. */
 static size_t put(uint32_t opcode, const void *record, size_t size, size_t more)
@@ -125,27 +101,30 @@ static size_t put(uint32_t opcode, const void *record, size_t size, size_t more)
 /* Puts the request of a class, and answers its length: 0, there is no such class. */
 static size_t put_class(const char *name)
 {
-	const struct fuse_read_in page = { .size = PAGE }, megabyte = { .size = MEGABYTE },
-				  records = { .size = 32768 };
-	const struct fuse_write_in few = { .size = PAGE }, many = { .size = MEGABYTE };
-	const struct fuse_getattr_in attr = { .fh = 0 };
+	static const struct fuse_read_in page = { .size = PAGE }, megabyte = { .size = MEGABYTE },
+					 records = { .size = 32768 };
+	static const struct fuse_write_in few = { .size = PAGE }, many = { .size = MEGABYTE };
+	static const struct fuse_getattr_in attr;
+	static const struct {
+		const char *name;
+		uint32_t opcode;
+		const void *record;
+		size_t size, data;
+	} classes[] = {
+		{ "lookup", FUSE_LOOKUP, "a-name", 7, 0 },
+		{ "getattr", FUSE_GETATTR, &attr, sizeof(attr), 0 },
+		{ "read-4k", FUSE_READ, &page, sizeof(page), 0 },
+		{ "read-1m", FUSE_READ, &megabyte, sizeof(megabyte), 0 },
+		{ "write-4k", FUSE_WRITE, &few, sizeof(few), PAGE },
+		{ "write-1m", FUSE_WRITE, &many, sizeof(many), MEGABYTE },
+		{ "readdir", FUSE_READDIR, &records, sizeof(records), 0 },
+		{ "readdirplus", FUSE_READDIRPLUS, &records, sizeof(records), 0 },
+	};
+	size_t i;
 
-	if (!strcmp(name, "lookup"))
-		return put(FUSE_LOOKUP, "a-name", 7, 0);
-	if (!strcmp(name, "getattr"))
-		return put(FUSE_GETATTR, &attr, sizeof(attr), 0);
-	if (!strcmp(name, "read-4k"))
-		return put(FUSE_READ, &page, sizeof(page), 0);
-	if (!strcmp(name, "read-1m"))
-		return put(FUSE_READ, &megabyte, sizeof(megabyte), 0);
-	if (!strcmp(name, "write-4k"))
-		return put(FUSE_WRITE, &few, sizeof(few), PAGE);
-	if (!strcmp(name, "write-1m"))
-		return put(FUSE_WRITE, &many, sizeof(many), MEGABYTE);
-	if (!strcmp(name, "readdir"))
-		return put(FUSE_READDIR, &records, sizeof(records), 0);
-	if (!strcmp(name, "readdirplus"))
-		return put(FUSE_READDIRPLUS, &records, sizeof(records), 0);
+	for (i = 0; i < sizeof(classes) / sizeof(*classes); i++)
+		if (!strcmp(name, classes[i].name))
+			return put(classes[i].opcode, classes[i].record, classes[i].size, classes[i].data);
 	return 0;
 }
 

@@ -11,6 +11,7 @@ of the first daemon, in microseconds a request, and of each other one the median
 brackets. With --clock a second table has the same of the time by the clock.
 """
 import argparse
+import contextlib
 import os
 import random
 import statistics
@@ -58,7 +59,40 @@ def fill(folder):
             pass
 
 
-class Daemon:
+class Front:
+    """The processes of a daemon and of the front end that asks it, which growth.py starts otherwise."""
+
+    process = front = None
+
+    def send(self, kind, depth, count):
+        """Begins a class of requests; take() waits for its end."""
+        with contextlib.suppress(BrokenPipeError):
+            self.front.stdin.write(f"{kind} {depth} {count}\n")
+            self.front.stdin.flush()
+
+    def take(self):
+        """Returns nanoseconds by the clock, those of the processor, and the bytes of all replies; or None where the daemon
+        does not serve."""
+        return tuple(int(it) for it in self.front.stdout.readline().split()) or None
+
+    def ask(self, kind, depth, count):
+        """A class of requests, up to their end."""
+        self.send(kind, depth, count)
+        return self.take()
+
+    def end(self):
+        """Ends both processes. A daemon ends by itself when its front end is gone."""
+        with contextlib.suppress(BrokenPipeError):
+            self.front.stdin.close()
+        self.front.wait()
+        try:
+            self.process.wait(2)
+        except subprocess.TimeoutExpired:
+            self.process.terminate()
+            self.process.wait()
+
+
+class Daemon(Front):
     """A daemon that serves a front end. The front end has a processor of its own, and all daemons have the others."""
 
     def __init__(self, given, number, name, words, sandbox):
@@ -73,17 +107,6 @@ class Daemon:
                                       stdin=subprocess.PIPE, stdout=subprocess.PIPE, stderr=self.said,
                                       preexec_fn=lambda: os.sched_setaffinity(0, [front]))
 
-    def ask(self, kind, depth, count):
-        """Sends requests. Returns nanoseconds by the clock, those of the processor, and the bytes of all replies; or None
-        where the daemon does not serve."""
-        try:
-            self.front.stdin.write(f"{kind} {depth} {count}\n")
-            self.front.stdin.flush()
-            line = self.front.stdout.readline()
-        except BrokenPipeError:
-            line = ""
-        return tuple(int(it) for it in line.split()) or None
-
     def must(self, kind, depth, count):
         """The same, but it ends where the daemon does not serve."""
         found = self.ask(kind, depth, count)
@@ -96,17 +119,7 @@ class Daemon:
         return self.said.read()[-2000:]
 
     def end(self):
-        """Ends both processes. A daemon ends by itself when its front end is gone."""
-        try:
-            self.front.stdin.close()
-        except BrokenPipeError:
-            pass
-        self.front.wait()
-        try:
-            self.process.wait(1)
-        except subprocess.TimeoutExpired:
-            self.process.terminate()
-            self.process.wait()
+        super().end()
         # (virtiofsd leaves it)
         if os.path.exists(self.socket):
             os.remove(self.socket)
@@ -195,4 +208,5 @@ def main():
         show(daemons, found, 0, given)
 
 
-main()
+if __name__ == "__main__":
+    main()

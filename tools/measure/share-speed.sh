@@ -76,11 +76,11 @@ esac
 case " ${tables[*]} " in
     *" tree "*) need_proved "$unproved" nizwarf_tree ;;
 esac
-need_proved "$unproved" nizwarf_door nizwarf_border
+need_proved "$unproved" nizwarf_codec nizwarf_border
 # What is mounted here is in no other namespace, where it would stay in use.
 own_mounts "${given[@]}"
 
-build_transport share nizwarf_door
+build_transport share nizwarf_codec
 share=$transport
 # (in memory, so that no disk is measured)
 work=$(mktemp -d -p /dev/shm)
@@ -154,11 +154,13 @@ mount_share() {
     line "$1" "$2" "$share" --log-level=error "${@:3}" '{folder}' '{mount}'
 }
 own_suite=$(sed -n 's/^VERSION_CODENAME=//p' /etc/os-release)
-# Sets where libfuse's examples are, of this machine's suite and of sid with its ring.
+# Sets where libfuse's examples are, of this machine's suite, with bindfs, and of sid with its ring.
 build_libfuse() {
     "$here/tools/libfuse.sh" --unmodified --all > /dev/null
     examples=$here/out/libfuse/$own_suite-unmodified/build/example
     libfuse=$(sed 's/-.*//' "$here/out/libfuse/source-$own_suite/debian-version")
+    get_passthrough
+    unset LD_LIBRARY_PATH
 }
 build_ring() {
     "$here/tools/libfuse.sh" --unmodified --io-uring --all --suite sid > /dev/null
@@ -184,26 +186,27 @@ list_ring() {
     mount_share "nizwarf-share, read(2)" folder
     mount_share "nizwarf-share, --passthrough" data --passthrough
 }
-list_read() {
-    mount_share "nizwarf-share" folder
+list_others() {
     list_libfuse "$libfuse" "$examples"
     list_bindfs
+}
+list_read() {
+    mount_share "nizwarf-share" folder
+    list_others
 }
 list_calls() {
     mount_share "nizwarf-share, read(2)" folder
     [ "$uring" != Y ] || mount_share "nizwarf-share, io_uring" folder -o io_uring
-    list_libfuse "$libfuse" "$examples"
-    list_bindfs
+    list_others
 }
 list_tree() {
     line "the tree" tree "$tree" '{mount}'
     line tmpfs tmpfs
-    list_libfuse "$libfuse" "$examples"
-    list_bindfs
+    list_others
 }
 
 echo "Measured on $(LC_ALL=C date '+%-d %B %Y') at commit $(git -C "$here" describe --always --dirty --exclude '*'), \
-$(library_kind nizwarf_door nizwarf_border): $("$share" --version | sed 's/.*, //'); Linux $(uname -r), $(nproc) processors, load $(cut -d ' ' -f 1-3 /proc/loadavg)."
+$(library_kind nizwarf_codec nizwarf_border): $("$share" --version | sed 's/.*, //'); Linux $(uname -r), $(nproc) processors, load $(cut -d ' ' -f 1-3 /proc/loadavg)."
 for table in "${tables[@]}"; do
     echo
     case $table in
@@ -222,15 +225,11 @@ for table in "${tables[@]}"; do
             ;;
         read)
             build_libfuse
-            get_passthrough
-            unset LD_LIBRARY_PATH
             printf 'Over /dev/fuse by read(2).\n\n'
             over_mount list_read
             ;;
         calls)
             build_libfuse
-            get_passthrough
-            unset LD_LIBRARY_PATH
             need strace "Install it: apt-get install strace."
             printf 'System calls, as strace counts them; those of less than one in twenty are left out. With a GETATTR, an open or a\n'
             printf 'rename the LOOKUP before it is counted.\n\n'
@@ -238,8 +237,6 @@ for table in "${tables[@]}"; do
             ;;
         tree)
             build_libfuse
-            get_passthrough
-            unset LD_LIBRARY_PATH
             build_transport mount
             tree=$transport
             printf 'The tree, %s; fuse.enable_uring is %s.\n\n' "$(library_kind nizwarf_tree)" "$uring"

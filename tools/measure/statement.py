@@ -1,6 +1,22 @@
-"""Counts what a statement is made of, for statement.sh, which says how."""
+#!/usr/bin/env python3
+"""Counts what a reader of a promise has to read: the definitions that it names, those that these name, and
+so on.
+
+Usage: tools/measure/statement.py [--files] [CRATE/FILE.NAME ..]
+A definition to begin with is written vfs_server/Session.IsSession, which is also what is counted without one. With
+--files it also prints each file, with how many of its definitions and lines are reached.
+
+Lines are those of definitions, without comments and empty lines. Types of the code, as records and enums of
+the protocol, are counted apart. So are the tables of records, opcodes, error numbers and single options, since the
+gate compiles them against the kernel's headers (tests/c/kernel.py); of the codec the numbers of codes, copies of
+records by the names of their fields, and records of zeros, which it compiles against nizwarf.h too (tests/c/data.py);
+and the decoders of records, made_..: how a record is made of its fields follows of how it is split into them, by
+the law decoding_is_the_inverse of vfs_wire.
+It stops at an import that it can't read or follow, since what is imported would not be counted."""
 import collections, glob, os, re, sys
 
+sys.dont_write_bytecode = True
+os.chdir(os.path.join(os.path.dirname(os.path.abspath(__file__)), "../.."))
 sys.path.append("tools/lib")
 from records import COPIED, ZEROS
 
@@ -46,7 +62,7 @@ def imports(path):
         elif found:
             modules[found[4] or found[1].split(".")[-1]] = found[1]
         elif re.match(r"[\s\w]*\buse\s+Rattle\.", line):
-            sys.exit(f"statement.sh: {path}:{at}: an import is on one line, as `use Rattle.CRATE.specs.FILE.{{NAME, ..}}`")
+            sys.exit(f"statement.py: {path}:{at}: an import is on one line, as `use Rattle.CRATE.specs.FILE.{{NAME, ..}}`")
     return names, modules
 
 
@@ -84,23 +100,19 @@ class Specs:
         for where, word, inside in words:
             it = ("declared", inside.split(".TheVariants")[0]) if ".declared." in where else self.find(where, word)
             if not it and re.match(CRATES + r"\.specs\.", inside):
-                sys.exit(f"statement.sh: {module}: {name} names {word} of {inside}, which isn't there: it would not be counted")
+                sys.exit(f"statement.py: {module}: {name} names {word} of {inside}, which isn't there: it would not be counted")
             found.add(it)
         return found - {None, (module, name)}
 
     def reach(self, starts):
-        """What is reached from these, with those that name each."""
+        """What is reached from these."""
         # (a definition is followed once, whoever names it)
-        by, todo = collections.defaultdict(set), list(starts)
-        for it in starts:
-            by[it] = set()
+        reached, todo = set(starts), list(starts)
         while todo:
-            at = todo.pop()
-            for it in self.named(*at):
-                if it not in by and it[0] != "declared":
-                    todo.append(it)
-                by[it].add(at)
-        return by
+            new = self.named(*todo.pop()) - reached
+            todo += [it for it in new if it[0] != "declared"]
+            reached |= new
+        return reached
 
 
 def start_of(specs, word):
@@ -108,7 +120,7 @@ def start_of(specs, word):
     found = re.fullmatch(r"(\w+)/(\w+)\.(\w+)", word)
     at = found and (f"{found[1]}.specs.{found[2]}", found[3])
     if not at or at[1] not in specs.of.get(at[0], {}):
-        sys.exit(f"statement.sh: there is no definition {word}: write CRATE/FILE.NAME, as vfs_server/Session.IsSession")
+        sys.exit(f"statement.py: there is no definition {word}: write CRATE/FILE.NAME, as vfs_server/Session.IsSession")
     return at
 
 
@@ -124,7 +136,7 @@ def is_held(specs, it):
     text = specs.of[it[0]][it[1]].text
     if it[0] == "c_rooms.specs.Codes":
         return it[1] == "outcome_code" or bool(re.match(r"abbrev pub \w+ : ℤ\n\w+ = pos \d+$", text.strip()))
-    if it[0].startswith("door_calls"):
+    if it[0].startswith("codec_calls"):
         return bool(re.match(COPIED, text.strip()) or re.match(ZEROS, text.strip()))
     if it[0].startswith("vfs_wire"):
         return bool(re.match(r"abbrev pub \w+ : Table \w+\n", text))
@@ -135,14 +147,14 @@ def is_held(specs, it):
 
 
 def main():
-    """Prints what the words ask for, and the counts of what is reached from these definitions."""
+    """Prints the counts of what is reached from the definitions that are named, with --files of each file too."""
     words = sys.argv[1:]
-    show = words.pop(0) if words and words[0].startswith("--") else ""
-    if show not in ("", "--files", "--once", "--beside"):
-        sys.exit(f"statement.sh: {show} is no option: see tools/measure/statement.sh --help")
+    if words[:1] == ["--help"]:
+        sys.exit(print(__doc__))
+    by_files = words[:1] == ["--files"]
     specs = Specs()
-    by = specs.reach([start_of(specs, it) for it in words or ["vfs_server/Session.IsSession"]])
-    all_reached = [it for it in by if it[0] != "declared"]
+    named = specs.reach([start_of(specs, it) for it in words[by_files:] or ["vfs_server/Session.IsSession"]])
+    all_reached = [it for it in named if it[0] != "declared"]
     followed = [it for it in all_reached if is_decoder(it)]
     held = [it for it in all_reached if is_held(specs, it)]
     reached = [it for it in all_reached if it not in followed and it not in held]
@@ -151,20 +163,11 @@ def main():
     lines = collections.Counter()
     for it in reached:
         lines[at(it).path] += len(at(it).lines)
-    if show == "--files":
-        for path in sorted(files):
-            print(f"{path[len('crates/'):]}: {files[path]} definitions, {lines[path]} lines")
-    elif show == "--once":
-        for it in sorted(it for it in reached if len(by[it]) == 1):
-            print(f"{it[0]}.{it[1]}: {', '.join('.'.join(user) for user in by[it])}")
-    elif show == "--beside":
-        for module in sorted({it[0] for it in reached}):
-            for name in specs.of[module]:
-                if (module, name) not in by:
-                    print(f"{module}.{name}")
+    for path in sorted(files) if by_files else []:
+        print(f"{path[len('crates/'):]}: {files[path]} definitions, {lines[path]} lines")
     crates = {path.split("/")[1] for path in files}
     print(f"{len(reached)} definitions, {sum(lines.values())} lines, in {len(files)} files of {len(crates)} crates;"
-          f" {len(by) - len(all_reached)} types of the code")
+          f" {len(named) - len(all_reached)} types of the code")
     length = lambda those: sum(len(at(it).lines) for it in those)
     if held:
         print(f"not counted: {len(held)} tables and numbers of {length(held)} lines, held against headers, and"

@@ -1,10 +1,10 @@
 //! Protects a program that serves FUSE requests: it passes on only those that are well-formed.
 //!
-//! The library decodes each request, and its call goes no further. A request that is refused is answered EIO.
-//! One that needs no call is answered by the library. The program gets all others, and its replies are passed
-//! back unchanged.
+//! The library decodes each request, and its call is dropped. If a request is refused, the reply is EIO. If
+//! it needs no call, the library makes the reply. All other requests are passed to the program, and its
+//! replies are passed back unchanged.
 
-use nizwarf::{Asked, Call, FsOptions, Session, Slot};
+use nizwarf::{Call, Decoded, FsOptions, Scratch, Session};
 use std::env;
 use std::fs::File;
 use std::io::{self, IoSlice, Read, Write};
@@ -41,12 +41,12 @@ impl Check {
         Check { session, options: AtomicU64::new(0), init: AtomicU64::new(0) }
     }
 
-    fn judge(&self, slot: &mut Slot, request: &[u8]) -> Verdict {
+    fn judge(&self, scratch: &mut Scratch, request: &[u8]) -> Verdict {
         let mut session = self.session;
         session.set_options(FsOptions::from_bits_truncate(self.options.load(Ordering::Acquire)));
         let slices = [IoSlice::new(request)];
-        match slot.ask(&session, &slices, session.longest_message()) {
-            Asked::Call(pending) => {
+        match scratch.decode(&session, &slices, session.longest_message()) {
+            Decoded::Call(pending) => {
                 match &pending.call {
                     Call::Init { to, .. } => self.init.store(to.unique(), Ordering::Release),
                     Call::Destroy { .. } => self.options.store(0, Ordering::Release),
@@ -54,8 +54,8 @@ impl Check {
                 }
                 Verdict::PassOn
             }
-            Asked::Finished(done) if done.interrupts.is_some() => Verdict::PassOn,
-            Asked::Finished(mut done) => match done.outcome {
+            Decoded::Finished(done) if done.interrupts.is_some() => Verdict::PassOn,
+            Decoded::Finished(mut done) => match done.outcome {
                 Ok(()) => Verdict::Reply(done.reply.bytes().to_vec()),
                 Err(refusal) => {
                     eprintln!("check: a request of {} bytes: {refusal}", request.len());
@@ -127,14 +127,14 @@ fn relay(device: &File, program: &File) -> io::Result<()> {
                 reply_to(device, reply)?;
             }
         });
-        let (mut slot, mut buffer) = (Slot::new(), vec![0; longest]);
+        let (mut scratch, mut buffer) = (Scratch::new(), vec![0; longest]);
         loop {
             let request = next(device, &mut buffer)?;
             if request.is_empty() {
                 end_writing(program)?;
                 return replies.join().unwrap_or(Ok(()));
             }
-            match check.judge(&mut slot, request) {
+            match check.judge(&mut scratch, request) {
                 Verdict::PassOn => drop((&mut &*program).write(request)?),
                 Verdict::Reply(reply) if reply.is_empty() => {}
                 Verdict::Reply(reply) => reply_to(device, &reply)?,
@@ -156,14 +156,14 @@ struct Signals([u64; 16]);
 /// SIGINT and SIGTERM.
 static ENDING: Signals = Signals([1 << (2 - 1) | 1 << (15 - 1), 0, 0, 0, 0, 0, 0, 0, 0, 0, 0, 0, 0, 0, 0, 0]);
 
-/// Holds the signals back that end this process. Threads that begin after it do so too.
-fn hold_signals() {
+/// Blocks the signals that end this process, also for threads that begin after it.
+fn block_signals() {
     const SIG_BLOCK: c_int = 0;
     // SAFETY: the set has the size of the C library's.
     unsafe { pthread_sigmask(SIG_BLOCK, &ENDING, std::ptr::null_mut()) };
 }
 
-/// Unmounts, as far as that can be: a mount that nobody serves fails at each use.
+/// Unmounts, if possible, because all operations fail on a mount that nobody serves.
 fn unmount(folder: &str) {
     if let Err(error) = Command::new("umount").args(["-i", "-l", "--", folder]).status() {
         eprintln!("check: umount: {error}");
@@ -195,7 +195,7 @@ fn ends() -> io::Result<(File, File)> {
     }
 }
 
-/// Ends what the other end reads.
+/// Shuts down writing, so that the other end reads the end of the stream.
 fn end_writing(socket: &File) -> io::Result<()> {
     let socket = std::os::unix::net::UnixStream::from(socket.as_fd().try_clone_to_owned()?);
     socket.shutdown(std::net::Shutdown::Write)
@@ -234,7 +234,7 @@ fn main() -> io::Result<()> {
     let device = match folder {
         "-" => File::from(io::stdin().as_fd().try_clone_to_owned()?),
         folder => {
-            hold_signals();
+            block_signals();
             let (device, folder) = (mount_on(folder)?, folder.to_owned());
             thread::spawn(move || unmount_at_signal(&folder));
             device
@@ -261,7 +261,7 @@ mod tests {
         bytes
     }
 
-    fn told(from: &File) -> Vec<u8> {
+    fn received(from: &File) -> Vec<u8> {
         let mut buffer = [0; 256];
         next(from, &mut buffer).unwrap().to_vec()
     }
@@ -271,17 +271,17 @@ mod tests {
         let (client, device) = ends().unwrap();
         let (ours, program) = ends().unwrap();
         let relayed = thread::spawn(move || relay(&device, &ours));
-        let ask = |bytes: &[u8]| assert_eq!((&mut &client).write(bytes).unwrap(), bytes.len());
-        // An INIT of version 7.38 that offers security contexts. The program accepts them.
+        let send = |bytes: &[u8]| assert_eq!((&mut &client).write(bytes).unwrap(), bytes.len());
+        // An INIT of version 7.38 with security contexts. The program agrees to them.
         let mut body = vec![0; 64];
         (body[0], body[4], body[15], body[16]) = (7, 38, 0x40, 1);
         let init = request(104, 26, 1, &body);
-        ask(&init);
-        assert_eq!(told(&program), init);
+        send(&init);
+        assert_eq!(received(&program), init);
         let mut reply = vec![0; 80];
         (reply[0], reply[8], reply[16], reply[20], reply[48]) = (80, 1, 7, 38, 1);
         assert_eq!((&mut &program).write(&reply).unwrap(), 80);
-        assert_eq!(told(&client), reply);
+        assert_eq!(received(&client), reply);
         // No name, a name without NUL, a wrong length, and no security context.
         for broken in [
             request(40, 1, 2, &[]),
@@ -289,22 +289,22 @@ mod tests {
             request(99, 1, 2, b"abc\0"),
             request(50, 9, 2, &[0, 0, 0, 0, 0, 0, 0, 0, b'a', 0]),
         ] {
-            ask(&broken);
+            send(&broken);
             let eio = [16, 0, 0, 0, 251, 255, 255, 255, 2, 0, 0, 0, 0, 0, 0, 0];
-            assert_eq!(told(&client), eio);
+            assert_eq!(received(&client), eio);
         }
-        ask(&[1, 2, 3]);
-        // An opcode that does not exist is answered ENOSYS.
-        ask(&request(40, 99, 3, &[]));
-        assert_eq!(told(&client), [16, 0, 0, 0, 218, 255, 255, 255, 3, 0, 0, 0, 0, 0, 0, 0]);
+        send(&[1, 2, 3]);
+        // The reply to an opcode that does not exist is ENOSYS.
+        send(&request(40, 99, 3, &[]));
+        assert_eq!(received(&client), [16, 0, 0, 0, 218, 255, 255, 255, 3, 0, 0, 0, 0, 0, 0, 0]);
         let whole = request(44, 1, 4, b"abc\0");
-        ask(&whole);
-        assert_eq!(told(&program), whole);
+        send(&whole);
+        assert_eq!(received(&program), whole);
         let interrupt = request(48, 36, 5, &[4, 0, 0, 0, 0, 0, 0, 0]);
-        ask(&interrupt);
-        assert_eq!(told(&program), interrupt);
+        send(&interrupt);
+        assert_eq!(received(&program), interrupt);
         drop(client);
-        assert_eq!(told(&program), []);
+        assert_eq!(received(&program), []);
         drop(program);
         relayed.join().unwrap().unwrap();
     }

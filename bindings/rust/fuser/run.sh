@@ -94,7 +94,7 @@ use_example() {
     esac
     timeout 120 "$built/target/debug/$example-$2" "${words[@]}" > "$mount.server" 2>&1 &
     server=$!
-    # (without a mount the calls fail, which is told)
+    # (without a mount the calls fail, which the results show)
     await_mounted "$mount" "$server" || true
     timeout 60 "$here/session.py" "$example" "$mount" > "$mount.said" 2>&1 || status=$?
     umount "$mount" || status=unmounted

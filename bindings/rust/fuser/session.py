@@ -148,7 +148,7 @@ def files():
     show("whole", read, "file")
     show("mode", os.chmod, "file", 0o4604)
     show("owner", os.chown, "file", 1000, 1001)
-    # (of times before 1970 fuser tells others)
+    # (times before 1970 differ with fuser)
     moment = (1_000_000_007, 2_000_000_000_000_000_009)
     show(f"set times {moment}", lambda: os.utime("file", ns=moment))
     show("times", times, "file")
@@ -239,7 +239,7 @@ def as_other(user):
 
 
 def ioctl():
-    """The size of the example's file, told and set by ioctl(2)."""
+    """The size of the example's file, read and set by ioctl(2)."""
     descriptor = os.open("fioc", os.O_RDWR)
     # FIOC_GET_SIZE and FIOC_SET_SIZE of the example: _IOR and _IOW of 'E', 0 and 1, 8 bytes each.
     get_size, set_size = 0x80084500, 0x40084501
@@ -264,13 +264,13 @@ def poll():
         for descriptor in files:
             while os.read(descriptor, 100):
                 pass
-        # (the producer is a thread: its replies and notices come while nothing is asked)
+        # (the producer is a thread, which replies and notifies while no call is made)
         events = waits.poll(20_000)
         print("woken", bool(events), {event for _, event in events}, all(os.read(it, 100) for it, _ in events))
 
 
 def notify_inval_entry():
-    """A name that the server changes is no longer kept once it is told so."""
+    """A name that the server changes is no longer cached after its notice."""
     (old,) = os.listdir(".")
     attributes(old)
     time.sleep(1.2)

@@ -3,87 +3,36 @@
 
 use crate::attr::{Attr, Statvfs};
 use crate::call::number;
-use crate::door::{Refusal, Reply};
+use crate::codec::{Refusal, Reply};
 use crate::errno::{answered, Errno};
-use crate::ffi::{Item, Pending, RawAnswer, RawCall, RawEntry, Slot};
+use crate::ffi::{DirItem, Pending, RawAnswer, RawCall, RawEntry, Scratch};
 use crate::file_system::{Entry, GetxattrReply, ListxattrReply};
 use crate::flags::{FsOptions, OpenOptions};
-use crate::further::{IoctlReply, Limits, Lock, Statx};
+use crate::kinds;
 use crate::numbers::{has, kind};
+use crate::optional::{IoctlReply, Limits, Lock, Statx};
 use std::fmt;
 use std::io;
 use std::marker::PhantomData;
 use std::time::Duration;
 
-/// Declares the kinds of answers.
-macro_rules! kinds {
-    ($($(#[$about:meta])* $name:ident)*) => {
-        $($(#[$about])* #[derive(Debug)] pub enum $name {})*
-    };
-}
-
-kinds! {
-    /// No reply.
-    Quiet
-    /// No reply, and the options are reset.
-    Destroyed
-    /// Success, or an error.
-    Done
-    /// How many bytes of data were put into the buffer.
-    Data
-    /// Options.
-    Want
-    /// An entry.
-    EntryOf
-    /// Attributes, and how long they are valid.
-    Attributes
-    /// An open file or directory.
-    Opened
-    /// An entry, and its open file.
-    Created
-    /// Statistics of the file system.
-    Statistics
-    /// A text.
-    Text
-    /// A text, or how long it is.
-    TextOrCount
-    /// An offset in a file.
-    Offset
-    /// How many bytes were written.
-    Written
-    /// Items of a directory listing.
-    Directory
-    /// An error only.
-    Fault
-    /// A lock.
-    Locked
-    /// The result of an IOCTL.
-    Controlled
-    /// Events.
-    Events
-    /// Attributes with the time of birth, and how long they are valid.
-    Extended
-    /// How many bytes were copied.
-    Copied
-}
-
 /// Answers one call, once. The type parameter is the kind of the answer, one of [`kinds`](crate::kinds).
 ///
-/// It borrows nothing, so it can be kept, and sent to another thread. If it is dropped, the request gets no
-/// reply.
+/// It borrows nothing, so it may be kept, and sent to another thread. If it is dropped, the request gets no
+/// reply, and the client waits forever. So each call should be answered, if need be by [`fail`](Self::fail).
 ///
 /// ```
-/// use nizwarf::{Asked, Call, Session, Slot};
+/// use nizwarf::{Call, Decoded, Scratch, Session};
 /// use std::io::IoSlice;
 /// use std::thread;
 ///
 /// let mut request = [0; 42];
 /// (request[0], request[4], request[16], request[40]) = (42, 10, 1, b'a'); // UNLINK
 /// let request = [IoSlice::new(&request)];
-/// let mut slot = Slot::new();
-/// if let Asked::Call(pending) = slot.ask(&Session::default(), &request, 64) {
+/// let mut scratch = Scratch::new();
+/// if let Decoded::Call(pending) = scratch.decode(&Session::default(), &request, 64) {
 ///     if let Call::Unlink { to, .. } = pending.call {
-///         let later = thread::spawn(move || to.answer(&mut Slot::new(), Ok(())).reply().len());
+///         let later = thread::spawn(move || to.answer(&mut Scratch::new(), Ok(())).reply().len());
 ///         assert_eq!(later.join().unwrap(), 16);
 ///         return;
 ///     }
@@ -94,10 +43,10 @@ kinds! {
 /// An answer of another kind does not compile:
 ///
 /// ```compile_fail,E0308
-/// use nizwarf::{kinds, Slot, To};
+/// use nizwarf::{kinds, Scratch, To};
 ///
-/// fn answer(slot: &mut Slot, to: To<kinds::EntryOf>) {
-///     let _ = to.answer(slot, Ok(5)); // a number is not an entry
+/// fn answer(scratch: &mut Scratch, to: To<kinds::Entry>) {
+///     let _ = to.answer(scratch, Ok(5)); // a number is not an entry
 /// }
 /// ```
 #[must_use = "the client waits for the reply"]
@@ -106,25 +55,26 @@ pub struct To<K> {
     kind: PhantomData<fn(K)>,
 }
 
-/// The result of an answer.
+/// An answer that was encoded: the reply, and the lookups and the handle that the client does not receive
+/// with it.
 ///
 /// ```
-/// use nizwarf::{Asked, Attr, Call, Entry, Session, Slot};
+/// use nizwarf::{Attr, Call, Decoded, Entry, Scratch, Session};
 /// use std::io::IoSlice;
 ///
 /// // A LOOKUP of `a` in the root, with a buffer that is too short for an entry.
 /// let mut request = [0; 42];
 /// (request[0], request[4], request[16], request[40]) = (42, 1, 1, b'a');
 /// let request = [IoSlice::new(&request)];
-/// let mut slot = Slot::new();
-/// if let Asked::Call(pending) = slot.ask(&Session::default(), &request, 100) {
+/// let mut scratch = Scratch::new();
+/// if let Decoded::Call(pending) = scratch.decode(&Session::default(), &request, 100) {
 ///     if let Call::Lookup { to, .. } = pending.call {
 ///         let entry = Entry { inode: 5, ..Entry::default() };
-///         let told = to.answer(&mut slot, Ok(entry));
-///         let mut given_back = Vec::new();
-///         let reply = told.give_back(|node| given_back.push(node));
+///         let encoded = to.answer(&mut scratch, Ok(entry));
+///         let mut forgotten = Vec::new();
+///         let reply = encoded.forget_lost(|node| forgotten.push(node));
 ///         assert!(reply.is_empty());
-///         assert_eq!(given_back, [5]);
+///         assert_eq!(forgotten, [5]);
 ///         return;
 ///     }
 /// }
@@ -135,67 +85,67 @@ pub struct To<K> {
 ///
 /// ```compile_fail
 /// #![deny(unused_must_use)]
-/// use nizwarf::{kinds, Entry, Slot, To};
+/// use nizwarf::{kinds, Entry, Scratch, To};
 ///
-/// fn answer(slot: &mut Slot, to: To<kinds::EntryOf>) {
-///     to.answer(slot, Ok(Entry::default()));
+/// fn answer(scratch: &mut Scratch, to: To<kinds::Entry>) {
+///     to.answer(scratch, Ok(Entry::default()));
 /// }
 /// ```
-#[must_use = "nodes may have to be given back, and the client waits for the reply"]
+#[must_use = "lookups may be lost, and the client waits for the reply"]
 #[derive(Debug)]
-pub struct Told<'s> {
+pub struct Encoded<'s> {
     /// Why there is no reply, if there should be one.
     pub outcome: Result<(), Refusal>,
     /// The options of the session from now on, if the call was an INIT or a DESTROY.
     pub options: Option<FsOptions>,
-    /// How many of the items are in the reply: the first ones.
-    pub taken: usize,
-    held: Vec<u64>,
-    /// A node of which the answer has an entry, whether the client gets it or not.
+    /// The number of items in the reply, which has the first ones.
+    pub entries: usize,
+    lost_nodes: Vec<u64>,
+    /// A node of which the answer has an entry, whether the client receives it or not.
     entry: Option<u64>,
-    /// The node and the handle of what was opened, if the client does not get them.
-    lost: Option<(u64, u64)>,
+    /// The node and the handle that were opened, if the client does not receive the handle.
+    lost_handle: Option<(u64, u64)>,
     reply: Reply<'s>,
 }
 
-impl<'s> Told<'s> {
-    /// Calls `forget` for each node whose entry the client did not get, so that the file system can drop
-    /// one lookup of it. Then returns the reply.
+impl<'s> Encoded<'s> {
+    /// Calls `forget` for each node whose entry the client does not receive, because the reply does not fit.
+    /// The file system must drop one lookup of it. Then returns the reply.
     #[must_use = "the client waits for the reply"]
-    pub fn give_back(self, forget: impl FnMut(u64)) -> Reply<'s> {
-        self.held.into_iter().for_each(forget);
+    pub fn forget_lost(self, forget: impl FnMut(u64)) -> Reply<'s> {
+        self.lost_nodes.into_iter().for_each(forget);
         self.reply
     }
 
     /// Returns the reply to a call whose answer has no entry.
     ///
     /// # Panics
-    /// If the answer has an entry of a node, even one that fits: with a smaller buffer, which a client may
-    /// choose, its lookup had to be given back. Use [`give_back`](Self::give_back) for calls that have
-    /// entries.
+    /// If the answer has an entry of a node, even one that fits, because with a smaller buffer, which a
+    /// client may choose, its lookup would be lost. Calls that have entries must use
+    /// [`forget_lost`](Self::forget_lost).
     #[must_use = "the client waits for the reply"]
     pub fn reply(self) -> Reply<'s> {
         if let Some(node) = self.entry {
-            panic!("the answer has an entry of node {node}: its reply comes from `give_back`");
+            panic!("the answer has an entry of node {node}: its reply comes from `forget_lost`");
         }
         self.reply
     }
 
-    /// Returns the node and the handle of a file or a directory that was opened in vain: the reply does not fit,
-    /// so the client does not know the handle. Release it before [`give_back`](Self::give_back), as a RELEASE or
-    /// a RELEASEDIR does.
+    /// Returns the node and the handle of a file or a directory if the client does not receive the handle,
+    /// because the reply does not fit. The file system must release it, as for a RELEASE or a RELEASEDIR,
+    /// before [`forget_lost`](Self::forget_lost).
     #[must_use]
     pub fn lost_handle(&self) -> Option<(u64, u64)> {
-        self.lost
+        self.lost_handle
     }
 
     fn with_entry(self, node: Option<u64>) -> Self {
-        Told { entry: node, ..self }
+        Encoded { entry: node, ..self }
     }
 
     fn with_handle(self, node: u64, handle: Option<u64>) -> Self {
-        let lost = handle.filter(|_| self.outcome.is_err()).map(|handle| (node, handle));
-        Told { lost, ..self }
+        let lost_handle = handle.filter(|_| self.outcome.is_err()).map(|handle| (node, handle));
+        Encoded { lost_handle, ..self }
     }
 }
 
@@ -204,86 +154,83 @@ impl<K> To<K> {
         To { pending, kind: PhantomData }
     }
 
-    /// Returns what answers the same call with an error only.
-    pub(crate) fn into_fault(self) -> To<Fault> {
+    /// Converts to the kind that can answer the same call with an error only.
+    pub(crate) fn into_error(self) -> To<kinds::Error> {
         To::new(self.pending)
     }
 
-    /// Returns the number of the request.
-    #[must_use]
-    pub fn unique(&self) -> u64 {
-        self.pending.call.unique
+    getters! {
+        /// Returns the number of the request.
+        unique: u64 = |it| it.pending.call.unique;
+        /// Returns the size of the reply buffer, with which the request was decoded.
+        reply_size: usize = |it| usize::try_from(it.pending.call.reply_size).unwrap_or(usize::MAX);
     }
 
-    /// Returns the size of the reply buffer that was stated when the call was asked for.
-    #[must_use]
-    pub fn room(&self) -> usize {
-        usize::try_from(self.pending.call.room).unwrap_or(usize::MAX)
-    }
-
-    /// Answers with an error. One without a number becomes EIO, and so does one that Linux does not take, which
-    /// takes 1 to 511. Calls that have no reply get none.
-    pub fn fail<'s>(mut self, slot: &'s mut Slot, error: &io::Error) -> Told<'s> {
+    /// Answers with an error. It becomes EIO if it has no number, or a number that Linux does not accept,
+    /// which accepts 1 to 511. A call without a reply still gets none.
+    pub fn fail<'s>(mut self, scratch: &'s mut Scratch, error: &io::Error) -> Encoded<'s> {
         self.pending.answer.error = answered(error).number();
-        tell(self.pending, slot, &[], &[])
+        tell(self.pending, scratch, &[], &[])
     }
 
     /// Answers with success.
-    fn succeed<'s>(mut self, slot: &'s mut Slot, text: &[u8], items: &[Item<'_>]) -> Told<'s> {
+    fn succeed<'s>(mut self, scratch: &'s mut Scratch, text: &[u8], items: &[DirItem<'_>]) -> Encoded<'s> {
         self.pending.answer.error = 0;
-        tell(self.pending, slot, text, items)
+        tell(self.pending, scratch, text, items)
     }
 
     /// Answers with an error, or with a text.
-    fn put(self, slot: &mut Slot, result: io::Result<impl AsRef<[u8]>>) -> Told<'_> {
+    fn put(self, scratch: &mut Scratch, result: io::Result<impl AsRef<[u8]>>) -> Encoded<'_> {
         match result {
-            Ok(text) => self.succeed(slot, text.as_ref(), &[]),
-            Err(error) => self.fail(slot, &error),
+            Ok(text) => self.succeed(scratch, text.as_ref(), &[]),
+            Err(error) => self.fail(scratch, &error),
         }
     }
 
-    /// Answers with an error, or with an answer of which `change` sets the fields that its kind has.
+    /// Answers with an error, or with an answer whose fields `change` sets.
     #[inline]
     fn say<T>(
-        mut self, slot: &mut Slot, result: io::Result<T>, change: impl FnOnce(&mut RawAnswer, T),
-    ) -> Told<'_> {
+        mut self, scratch: &mut Scratch, result: io::Result<T>, change: impl FnOnce(&mut RawAnswer, T),
+    ) -> Encoded<'_> {
         match result {
             Ok(value) => {
                 change(&mut self.pending.answer, value);
-                self.succeed(slot, &[], &[])
+                self.succeed(scratch, &[], &[])
             }
-            Err(error) => self.fail(slot, &error),
+            Err(error) => self.fail(scratch, &error),
         }
     }
 }
 
-/// Tells the library the answer to a call.
+/// Encodes the answer to a call.
 #[inline(never)]
-fn tell<'s>(pending: Box<Pending>, slot: &'s mut Slot, text: &[u8], items: &[Item<'_>]) -> Told<'s> {
+fn tell<'s>(
+    pending: Box<Pending>, scratch: &'s mut Scratch, text: &[u8], items: &[DirItem<'_>],
+) -> Encoded<'s> {
     let call = &pending.call;
-    let (code, told) = slot.answer_raw(&pending, text, items);
-    let taken = usize::try_from(told.taken).unwrap_or(usize::MAX);
-    let mut held = Vec::new();
-    if told.give_back != 0 {
-        held.push(told.give_back);
+    let (code, result) = scratch.encode_raw(&pending, text, items);
+    let entries = usize::try_from(result.entries).unwrap_or(usize::MAX);
+    let mut lost_nodes = Vec::new();
+    if result.forget != 0 {
+        lost_nodes.push(result.forget);
     }
     if has_lookups(call) {
-        held.extend(items.iter().skip(taken).filter_map(Item::held));
+        lost_nodes.extend(items.iter().skip(entries).filter_map(DirItem::lookup));
     }
-    let options = matches!(call.call, number::INIT | number::DESTROY)
-        .then(|| FsOptions::from_bits_truncate(told.options));
+    let options = matches!(call.opcode, number::INIT | number::DESTROY)
+        .then(|| FsOptions::from_bits_truncate(result.options));
     let outcome = Refusal::of(code);
-    // (what has no reply has none for want of memory either)
-    let refused = outcome.err().filter(|_| call.answer != kind::QUIET).map(|_| call.unique);
-    slot.keep(pending);
-    let mut reply = Reply::new(slot, told.len, told.put);
+    // (a call that has no reply needs none, whatever the outcome)
+    let refused = outcome.err().filter(|_| call.reply != kind::NONE).map(|_| call.unique);
+    scratch.keep(pending);
+    let mut reply = Reply::new(scratch, result.len, result.written);
     reply.refused = refused;
-    Told { outcome, options, taken, held, entry: None, lost: None, reply }
+    Encoded { outcome, options, entries, lost_nodes, entry: None, lost_handle: None, reply }
 }
 
 /// Whether items have lookups: those of a READDIRPLUS do.
 fn has_lookups(call: &RawCall) -> bool {
-    call.call == number::READDIR && call.has & has::PLUS != 0
+    call.opcode == number::READDIR && call.has & has::PLUS != 0
 }
 
 fn opened(answer: &mut RawAnswer, handle: Option<u64>, options: OpenOptions) {
@@ -292,28 +239,29 @@ fn opened(answer: &mut RawAnswer, handle: Option<u64>, options: OpenOptions) {
     answer.open_flags = options.bits();
 }
 
-impl To<Quiet> {
+impl To<kinds::NoReply> {
     /// Reports that the call was made.
-    pub fn done(self, slot: &mut Slot) -> Told<'_> {
-        self.succeed(slot, &[], &[])
+    pub fn done(self, scratch: &mut Scratch) -> Encoded<'_> {
+        self.succeed(scratch, &[], &[])
     }
 }
 
-impl To<Destroyed> {
+impl To<kinds::Destroy> {
     /// Reports that the call was made.
-    pub fn done(self, slot: &mut Slot) -> Told<'_> {
-        self.succeed(slot, &[], &[])
+    pub fn done(self, scratch: &mut Scratch) -> Encoded<'_> {
+        self.succeed(scratch, &[], &[])
     }
 }
 
-/// Declares how calls are answered: of each kind the type of the result, and what sets the fields that its answer has.
+/// Declares how calls are answered: for each kind the type of the result, and a function that sets the fields
+/// of its answer.
 macro_rules! answers {
     ($($(#[$about:meta])* $kind:ident: $result:ty => $change:expr;)*) => {
-        $(impl To<$kind> {
+        $(impl To<kinds::$kind> {
             $(#[$about])*
             #[inline]
-            pub fn answer(self, slot: &mut Slot, result: io::Result<$result>) -> Told<'_> {
-                self.say(slot, result, $change)
+            pub fn answer(self, scratch: &mut Scratch, result: io::Result<$result>) -> Encoded<'_> {
+                self.say(scratch, result, $change)
             }
         })*
     };
@@ -321,122 +269,132 @@ macro_rules! answers {
 
 answers! {
     /// Answers with success or an error.
-    Done: () => |_, ()| ();
+    Status: () => |_, ()| ();
     /// Answers with attributes, and how long they are valid.
-    Attributes: (Attr, Duration) => |answer, (attr, timeout)| {
+    Attr: (Attr, Duration) => |answer, (attr, timeout)| {
         answer.entry.attr = attr;
         answer.entry.attr_seconds = timeout.as_secs();
         answer.entry.attr_nanoseconds = timeout.subsec_nanos();
     };
     /// Answers with statistics.
-    Statistics: Statvfs => |answer, statfs| answer.statfs = statfs;
+    Statfs: Statvfs => |answer, statfs| answer.statfs = statfs;
     /// Answers with an offset.
-    Offset: u64 => RawAnswer::set_offset;
+    Offset: u64 => |answer, offset| answer.count = offset;
     /// Answers with the number of bytes that were copied.
-    Copied: usize => |answer, count| answer.count = count as u64;
+    Count64: usize => |answer, count| answer.count = count as u64;
     /// Answers with events, as `poll(2)` has them.
-    Events: u32 => |answer, events| answer.count = events.into();
+    Poll: u32 => |answer, events| answer.count = events.into();
     /// Answers with the number of bytes that were written.
-    Written: usize => |answer, count| answer.count = count as u64;
+    Count: usize => |answer, count| answer.count = count as u64;
 }
 
-impl To<Locked> {
-    /// Answers with a lock that is in the way, or one of type [`LockType::Unlock`](crate::LockType::Unlock).
+impl To<kinds::Lock> {
+    /// Answers with a conflicting lock, or with one of type [`LockType::Unlock`](crate::LockType::Unlock) if
+    /// there is no conflict.
     #[inline]
-    pub fn answer(self, slot: &mut Slot, result: io::Result<Lock>) -> Told<'_> {
-        self.put(slot, result.map(Lock::to_record))
+    pub fn answer(self, scratch: &mut Scratch, result: io::Result<Lock>) -> Encoded<'_> {
+        self.put(scratch, result.map(Lock::to_record))
     }
 }
 
-impl To<Extended> {
+impl To<kinds::Statx> {
     /// Answers with attributes, and how long they are valid.
     #[inline]
-    pub fn answer(self, slot: &mut Slot, result: io::Result<(Statx, Duration)>) -> Told<'_> {
-        self.put(slot, result.map(|(statx, timeout)| statx.to_record(timeout)))
+    pub fn answer(self, scratch: &mut Scratch, result: io::Result<(Statx, Duration)>) -> Encoded<'_> {
+        self.put(scratch, result.map(|(statx, timeout)| statx.to_record(timeout)))
     }
 }
 
-impl To<Controlled> {
-    /// Answers with the result of a command. Output of more than `output_size` bytes, and more than 256 ranges, are
-    /// answered EIO.
+impl To<kinds::Ioctl> {
+    /// Answers with the result of a command. The reply is EIO if there are more than `output_size` bytes of
+    /// output or more than 256 ranges.
     #[inline]
-    pub fn answer(self, slot: &mut Slot, result: io::Result<IoctlReply>) -> Told<'_> {
+    pub fn answer(self, scratch: &mut Scratch, result: io::Result<IoctlReply>) -> Encoded<'_> {
         let size = self.pending.call.size;
         let text = result.and_then(|reply| reply.to_text(size).ok_or_else(|| Errno::EIO.into()));
-        self.put(slot, text)
+        self.put(scratch, text)
     }
 }
 
-impl To<Data> {
-    /// Returns how many bytes of data fit: at most `size`, and what the buffer has after 16 bytes.
+impl To<kinds::Data> {
+    /// Returns the maximum number of bytes of data: `size`, or less if the reply buffer has fewer bytes after
+    /// its first 16.
     #[must_use]
-    pub fn most(&self) -> usize {
-        // The length of a READ is the room for its data.
-        let room = usize::try_from(self.pending.call.length).unwrap_or(usize::MAX);
-        room.min(self.pending.call.size as usize)
+    pub fn max(&self) -> usize {
+        // In the library's call the length of a READ is the size of the buffer for its data.
+        let fits = usize::try_from(self.pending.call.length).unwrap_or(usize::MAX);
+        fits.min(self.pending.call.size as usize)
     }
 
-    /// Answers with the number of bytes that the caller put into the buffer, after its first 16 bytes. The
-    /// reply puts these 16. A number above [`most`](Self::most) is answered EIO.
+    /// Answers with the number of bytes that the caller put into the buffer, after its first 16 bytes, which
+    /// the reply has. If the number is above [`max`](Self::max), the reply is EIO.
     #[inline]
-    pub fn answer(self, slot: &mut Slot, result: io::Result<usize>) -> Told<'_> {
-        self.say(slot, result, |answer, count| answer.count = count as u64)
+    pub fn answer(self, scratch: &mut Scratch, result: io::Result<usize>) -> Encoded<'_> {
+        self.say(scratch, result, |answer, count| answer.count = count as u64)
     }
 }
 
-impl To<Want> {
-    /// Answers with the options that the file system wants. Those that were not offered are ignored. Some are
-    /// agreed on without being wanted: [`withhold`](crate::withhold()) names and declines them.
+impl To<kinds::Init> {
+    /// Answers with the options that the file system wants. Those of which the client is not capable are
+    /// ignored. Some options are agreed on even if they are not wanted: [`withhold`](crate::withhold()) lists
+    /// and removes them.
     #[inline]
-    pub fn answer(self, slot: &mut Slot, result: io::Result<FsOptions>) -> Told<'_> {
-        self.answer_with(slot, result, Limits::default())
+    pub fn answer(self, scratch: &mut Scratch, result: io::Result<FsOptions>) -> Encoded<'_> {
+        self.answer_with(scratch, result, Limits::default())
     }
 
-    /// Answers with the options that the file system wants, as [`answer`](Self::answer), and with limits.
-    pub fn answer_with(self, slot: &mut Slot, result: io::Result<FsOptions>, limits: Limits) -> Told<'_> {
+    /// Answers with the options that the file system wants, as [`answer`](Self::answer), and with its limits.
+    pub fn answer_with(
+        self, scratch: &mut Scratch, result: io::Result<FsOptions>, limits: Limits,
+    ) -> Encoded<'_> {
         let want = result.as_ref().map_or(0, |want| want.bits());
-        // What the library knows itself is not there.
-        let offered = self.pending.call.other_offset;
-        let is_changed = result.is_ok() && (want & offered != 0 || limits != Limits::default());
-        let mut told = self.say(slot, result, |answer, options| answer.set_options(options.bits()));
-        if is_changed && told.outcome.is_ok() {
-            let agreed = told.reply.add_to_init(offered, &limits.with(want));
-            let options = told.options.unwrap_or_default();
-            told.options = Some(options | FsOptions::from_bits_truncate(agreed));
+        // (options that the library decodes itself are not among these)
+        let capable = self.pending.call.other_offset;
+        let is_changed = result.is_ok() && (want & capable != 0 || limits != Limits::default());
+        let mut encoded = self.say(scratch, result, |answer, options| answer.count = options.bits());
+        if is_changed && encoded.outcome.is_ok() {
+            let agreed = encoded.reply.add_to_init(capable, &limits.with(want));
+            let options = encoded.options.unwrap_or_default();
+            encoded.options = Some(options | FsOptions::from_bits_truncate(agreed));
         }
-        told
+        encoded
     }
 }
 
-impl To<EntryOf> {
-    /// Answers with an entry. The client then holds one more lookup of its node, if that is not 0.
+impl To<kinds::Entry> {
+    /// Answers with an entry. This is one more lookup of its node, unless that is 0, which the client forgets
+    /// later.
     #[inline]
-    pub fn answer(self, slot: &mut Slot, result: io::Result<Entry>) -> Told<'_> {
+    pub fn answer(self, scratch: &mut Scratch, result: io::Result<Entry>) -> Encoded<'_> {
         let node = result.as_ref().ok().map(|entry| entry.inode).filter(|node| *node != 0);
-        self.say(slot, result, |answer, entry| answer.entry = RawEntry::from(&entry)).with_entry(node)
+        self.say(scratch, result, |answer, entry| answer.entry = RawEntry::from(&entry)).with_entry(node)
     }
 }
 
-impl To<Opened> {
-    /// Answers with a handle, which is sent as 0 if there is none, and options of the open file.
+impl To<kinds::Open> {
+    /// Answers with a handle, which is sent as 0 if it is `None`, and with options of the open file.
     #[inline]
-    pub fn answer(self, slot: &mut Slot, result: io::Result<(Option<u64>, OpenOptions)>) -> Told<'_> {
+    pub fn answer(
+        self, scratch: &mut Scratch, result: io::Result<(Option<u64>, OpenOptions)>,
+    ) -> Encoded<'_> {
         let node = self.pending.call.node;
         let handle = result.as_ref().ok().and_then(|(handle, _)| *handle);
-        self.say(slot, result, |answer, (handle, options)| opened(answer, handle, options))
+        self.say(scratch, result, |answer, (handle, options)| opened(answer, handle, options))
             .with_handle(node, handle)
     }
 }
 
-impl To<Created> {
+impl To<kinds::Create> {
     /// Answers with an entry, as a LOOKUP, and an open file, as an OPEN.
     #[inline]
-    pub fn answer(self, slot: &mut Slot, result: io::Result<(Entry, Option<u64>, OpenOptions)>) -> Told<'_> {
+    pub fn answer(
+        self, scratch: &mut Scratch, result: io::Result<(Entry, Option<u64>, OpenOptions)>,
+    ) -> Encoded<'_> {
         let (node, handle) = match &result {
             Ok((entry, handle, _)) => (entry.inode, *handle),
             Err(_) => (0, None),
         };
-        self.say(slot, result, |answer, (entry, handle, options)| {
+        self.say(scratch, result, |answer, (entry, handle, options)| {
             answer.entry = RawEntry::from(&entry);
             opened(answer, handle, options);
         })
@@ -445,39 +403,42 @@ impl To<Created> {
     }
 }
 
-impl To<Text> {
-    /// Answers with the target of a symbolic link. One above 4095 bytes, which Linux does not take, is
-    /// answered EIO.
+impl To<kinds::Bytes> {
+    /// Answers with the target of a symbolic link. If it has more than 4095 bytes, which Linux does not
+    /// accept, the reply is EIO.
     #[inline]
-    pub fn answer<'s>(self, slot: &'s mut Slot, result: io::Result<&[u8]>) -> Told<'s> {
-        const MOST: usize = 4095;
+    pub fn answer<'s>(self, scratch: &'s mut Scratch, result: io::Result<&[u8]>) -> Encoded<'s> {
+        const MAX: usize = 4095;
         match result {
-            Ok(text) if text.len() > MOST => self.fail(slot, &Errno::EIO.into()),
-            Ok(text) => self.succeed(slot, text, &[]),
-            Err(error) => self.fail(slot, &error),
+            Ok(text) if text.len() > MAX => self.fail(scratch, &Errno::EIO.into()),
+            Ok(text) => self.succeed(scratch, text, &[]),
+            Err(error) => self.fail(scratch, &error),
         }
     }
 }
 
-impl To<TextOrCount> {
-    /// Answers with a text, or with its length if the `size` of the call is 0: then a text stands for its
-    /// length. What is longer than `size` is answered ERANGE; a length where a text is asked for, EIO.
+impl To<kinds::BytesOrSize> {
+    /// Answers with a text, or with its length if the `size` of the call is 0. In that case a text may be
+    /// given as well, and its length is sent. If the text is longer than `size`, the reply is ERANGE; if only
+    /// its length is given although `size` is not 0, the reply is EIO.
     #[inline]
-    pub fn answer<T: Into<GetxattrReply>>(mut self, slot: &mut Slot, result: io::Result<T>) -> Told<'_> {
+    pub fn answer<T: Into<GetxattrReply>>(
+        mut self, scratch: &mut Scratch, result: io::Result<T>,
+    ) -> Encoded<'_> {
         let size = self.pending.call.size as usize;
         let (count, text) = match result.map(Into::into) {
             Ok(GetxattrReply::Value(text)) => (text.len(), Some(text)),
             Ok(GetxattrReply::Count(count)) => (count as usize, None),
-            Err(error) => return self.fail(slot, &error),
+            Err(error) => return self.fail(scratch, &error),
         };
         match text {
-            _ if size != 0 && count > size => self.fail(slot, &Errno::ERANGE.into()),
+            _ if size != 0 && count > size => self.fail(scratch, &Errno::ERANGE.into()),
             Some(text) if size != 0 => {
                 self.pending.answer.has_count = 0;
-                self.succeed(slot, &text, &[])
+                self.succeed(scratch, &text, &[])
             }
-            None if size != 0 => self.fail(slot, &Errno::EIO.into()),
-            _ => self.say(slot, Ok(count), |answer, count| {
+            None if size != 0 => self.fail(scratch, &Errno::EIO.into()),
+            _ => self.say(scratch, Ok(count), |answer, count| {
                 answer.has_count = 1;
                 answer.count = count as u64;
             }),
@@ -494,18 +455,18 @@ impl From<ListxattrReply> for GetxattrReply {
     }
 }
 
-impl To<Directory> {
+impl To<kinds::Directory> {
     /// Answers with items. The reply contains them up to the first that does not fit. With `plus` it also
     /// ends before an item whose lookup failed; if that is the first item, its error is the reply.
     #[inline]
-    pub fn answer<'s>(self, slot: &'s mut Slot, result: io::Result<&[Item<'_>]>) -> Told<'s> {
+    pub fn answer<'s>(self, scratch: &'s mut Scratch, result: io::Result<&[DirItem<'_>]>) -> Encoded<'s> {
         match result {
             Ok(items) => {
                 let plus = has_lookups(&self.pending.call);
-                let node = if plus { items.iter().find_map(Item::held) } else { None };
-                self.succeed(slot, &[], items).with_entry(node)
+                let node = if plus { items.iter().find_map(DirItem::lookup) } else { None };
+                self.succeed(scratch, &[], items).with_entry(node)
             }
-            Err(error) => self.fail(slot, &error),
+            Err(error) => self.fail(scratch, &error),
         }
     }
 }

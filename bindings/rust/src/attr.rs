@@ -48,38 +48,12 @@ records! {
         /// `FUSE_ATTR_SUBMOUNT`, which is 1, and `FUSE_ATTR_DAX`, which is 2.
         [84] pub flags: u32,
     }
-}
 
-impl From<&Metadata> for Attr {
-    /// Converts the result of `stat(2)`. Numbers are truncated to the width of their field.
-    #[allow(clippy::cast_possible_truncation, clippy::cast_sign_loss)] // as documented
-    fn from(stat: &Metadata) -> Self {
-        Attr {
-            ino: stat.ino(),
-            size: stat.size(),
-            blocks: stat.blocks(),
-            atime: stat.atime() as u64,
-            mtime: stat.mtime() as u64,
-            ctime: stat.ctime() as u64,
-            atimensec: stat.atime_nsec() as u32,
-            mtimensec: stat.mtime_nsec() as u32,
-            ctimensec: stat.ctime_nsec() as u32,
-            mode: stat.mode(),
-            nlink: stat.nlink() as u32,
-            uid: stat.uid(),
-            gid: stat.gid(),
-            rdev: stat.rdev() as u32,
-            blksize: stat.blksize() as u32,
-            flags: 0,
-        }
-    }
-}
-
-records! {
     /// The attributes to set: `fuse_setattr_in`.
     #[derive(Debug, Default, PartialEq, Eq)]
     pub struct SetattrIn: 88 {
-        /// Which fields to set, as sent by the client. [`SetattrValid`](crate::SetattrValid) has the known bits.
+        /// Which fields to set, as sent by the client. [`SetattrValid`](crate::SetattrValid) has the known
+        /// bits.
         [0] pub valid: u32,
         /// Not used.
         [4] pub padding: u32,
@@ -112,9 +86,7 @@ records! {
         /// Not used.
         [84] pub unused5: u32,
     }
-}
 
-records! {
     /// Statistics of a file system: `statvfs(3)`.
     #[derive(Debug, Default, PartialEq, Eq)]
     #[allow(clippy::struct_field_names)] // the names are those of C
@@ -135,5 +107,30 @@ records! {
         [48] pub f_ffree: u64,
         /// The length of the longest name.
         [56] pub f_namemax: u64,
+    }
+}
+
+impl From<&Metadata> for Attr {
+    /// Converts the result of `stat(2)`. Numbers are truncated to the width of their field.
+    #[allow(clippy::cast_possible_truncation, clippy::cast_sign_loss)] // as documented
+    fn from(stat: &Metadata) -> Self {
+        Attr {
+            ino: stat.ino(),
+            size: stat.size(),
+            blocks: stat.blocks(),
+            atime: stat.atime() as u64,
+            mtime: stat.mtime() as u64,
+            ctime: stat.ctime() as u64,
+            atimensec: stat.atime_nsec() as u32,
+            mtimensec: stat.mtime_nsec() as u32,
+            ctimensec: stat.ctime_nsec() as u32,
+            mode: stat.mode(),
+            nlink: stat.nlink() as u32,
+            uid: stat.uid(),
+            gid: stat.gid(),
+            rdev: stat.rdev() as u32,
+            blksize: stat.blksize() as u32,
+            flags: 0,
+        }
     }
 }

@@ -9,7 +9,7 @@ use std::io::IoSlice;
 /// A range of the bytes of a request, such as the data of a WRITE.
 ///
 /// ```
-/// use nizwarf::{Asked, Call, Session, Slot};
+/// use nizwarf::{Call, Decoded, Scratch, Session};
 /// use std::io::IoSlice;
 ///
 /// // A WRITE of 4 bytes to node 2, whose data are in two slices.
@@ -20,17 +20,17 @@ use std::io::IoSlice;
 /// request[56] = 4;
 /// request.extend(b"da");
 /// let slices = [IoSlice::new(&request), IoSlice::new(b"ta")];
-/// let mut slot = Slot::new();
-/// match slot.ask(&Session::default(), &slices, 4096) {
-///     Asked::Call(pending) => match pending.call {
+/// let mut scratch = Scratch::new();
+/// match scratch.decode(&Session::default(), &slices, 4096) {
+///     Decoded::Call(pending) => match pending.call {
 ///         Call::Write { data, to, .. } => {
 ///             assert_eq!(data.to_cow(), &b"data"[..]);
 ///             assert_eq!(data.pieces().count(), 2);
-///             assert_eq!(to.answer(&mut slot, Ok(4)).reply().len(), 24);
+///             assert_eq!(to.answer(&mut scratch, Ok(4)).reply().len(), 24);
 ///         }
 ///         other => panic!("{other:?}"),
 ///     },
-///     Asked::Finished(done) => panic!("{done:?}"),
+///     Decoded::Finished(done) => panic!("{done:?}"),
 /// }
 /// ```
 #[derive(Clone, Copy)]
@@ -41,7 +41,7 @@ pub struct Bytes<'r> {
 }
 
 impl<'r> Bytes<'r> {
-    /// The bytes from `at` on, `len` or as many as there are.
+    /// The bytes from `at` on: `len` bytes, or fewer at the end of the slices.
     pub(crate) fn new(slices: &'r [IoSlice<'r>], at: usize, len: usize) -> Self {
         let mut bytes = Bytes { slices, at, len };
         if bytes.in_first().is_none() {
@@ -55,22 +55,17 @@ impl<'r> Bytes<'r> {
         self.slices.first()?.get(self.at..self.at.checked_add(self.len)?)
     }
 
-    /// Returns the number of bytes.
-    #[must_use]
-    pub fn len(&self) -> usize {
-        self.len
+    getters! {
+        /// Returns the number of bytes.
+        len: usize = |it| it.len;
+        /// Returns whether there are no bytes.
+        is_empty: bool = |it| it.len == 0;
     }
 
-    /// Returns whether there are no bytes.
+    /// Returns the first bytes, at most `max`.
     #[must_use]
-    pub fn is_empty(&self) -> bool {
-        self.len == 0
-    }
-
-    /// Returns the first bytes, at most `most`.
-    #[must_use]
-    pub fn first(&self, most: usize) -> Self {
-        Bytes { len: self.len.min(most), ..*self }
+    pub fn first(&self, max: usize) -> Self {
+        Bytes { len: self.len.min(max), ..*self }
     }
 
     /// Returns the bytes slice by slice. No piece is empty.
@@ -96,7 +91,7 @@ impl<'r> Bytes<'r> {
         }
     }
 
-    /// Returns the name that these bytes, which end with a NUL, are.
+    /// Returns these bytes, which end with a NUL, as a name.
     pub(crate) fn to_name(self) -> Cow<'r, CStr> {
         match self.to_cow() {
             Cow::Borrowed(bytes) => match CStr::from_bytes_with_nul(bytes) {
@@ -146,7 +141,8 @@ impl<'r> Iterator for Pieces<'r> {
     }
 }
 
-/// An iterator over the pairs of a `BATCH_FORGET`: a node, and how many lookups of it are given back.
+/// An iterator over the pairs of a `BATCH_FORGET`: a node, and the number of its lookups that the client
+/// forgets.
 #[derive(Clone, Debug)]
 pub struct Forgets<'r> {
     pairs: Cow<'r, [u8]>,

@@ -1,18 +1,18 @@
 //! Replies that are sent later.
 #![forbid(unsafe_code)]
 
-use crate::device::{answer_fault, is_unawaited};
-use crate::door::Reply;
+use crate::codec::Reply;
+use crate::device::{is_unawaited, send_eio};
 use crate::errno::Errno;
 use crate::notifier::{write_both, Notifier};
 use std::fs::File;
 use std::io;
 use std::sync::{Arc, Weak};
 
-/// The client of a server: where replies and notices go. It can be cloned and used on any thread. It does not keep a
-/// mount, or its server.
+/// The client of a server, to which replies and notices are sent. It may be cloned and used on any thread. It
+/// does not keep a mount, or its server.
 ///
-/// [`FileSystem::take`](crate::FileSystem::take) is told by what to answer a call later.
+/// [`FileSystem::take`](crate::FileSystem::take) receives one, so that it can answer a call later.
 #[derive(Clone, Debug)]
 pub struct Client {
     device: Weak<File>,
@@ -23,18 +23,19 @@ impl Client {
         Client { device: Arc::downgrade(device) }
     }
 
-    /// Sends a reply to a call that was taken. It is dropped, without an error, if nobody waits for it any more: after
-    /// the unmount, or if the call was answered. If there is none because the answer was refused, or Linux refuses it,
-    /// the caller gets EIO.
+    /// Sends a reply to a call that was taken. It is dropped, without an error, if the caller no longer waits
+    /// for it: after the unmount, or if the call was answered already. If the answer could not be encoded, or
+    /// if Linux refuses the reply, the caller receives EIO.
     ///
     /// # Errors
-    /// Other errors of writing; EINVAL if data have to follow the reply, which [`send_with`](Self::send_with) sends.
+    /// Other errors of writing; EINVAL if data must follow the reply, which [`send_with`](Self::send_with)
+    /// sends.
     pub fn send(&self, reply: Reply<'_>) -> io::Result<()> {
         self.send_with(reply, &[])
     }
 
-    /// Sends the reply to a READ that was taken, and its data: as many bytes as it was answered with. If it was
-    /// answered with an error, there are none, and these are not sent.
+    /// Sends the reply to a READ that was taken, and its data, whose length must be the number in the answer.
+    /// If the answer is an error, the data are not sent.
     ///
     /// # Errors
     /// As [`send`](Self::send); EINVAL if there are fewer or more data.
@@ -44,7 +45,7 @@ impl Client {
             None => return Ok(()),
         };
         if let Some(unique) = reply.refused {
-            return answer_fault(&device, unique);
+            return send_eio(&device, unique);
         }
         let data = if reply.data_len() == 0 { &[] } else { data };
         if reply.is_empty() {
@@ -55,17 +56,17 @@ impl Client {
         unique.copy_from_slice(&head[8..16]);
         let unique = u64::from_le_bytes(unique);
         if missing {
-            answer_fault(&device, unique)?;
+            send_eio(&device, unique)?;
             return Err(Errno::EINVAL.into());
         }
         match write_both(&device, head, data) {
             Err(error) if is_unawaited(&error) => Ok(()),
-            Err(error) if Errno::EINVAL.is(&error) => answer_fault(&device, unique),
+            Err(error) if Errno::EINVAL.is(&error) => send_eio(&device, unique),
             sent => sent,
         }
     }
 
-    /// Returns what tells the client what has changed.
+    /// Returns a notifier for this client.
     #[must_use]
     pub fn notifier(&self) -> Notifier {
         Notifier::new(Weak::clone(&self.device))

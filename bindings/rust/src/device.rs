@@ -3,9 +3,9 @@
 
 use crate::call::number;
 use crate::client::Client;
-use crate::door::Session;
+use crate::codec::Session;
 use crate::errno::Errno;
-use crate::ffi::Slot;
+use crate::ffi::Scratch;
 use crate::file_system::FileSystem;
 use crate::server::{guard, Server};
 use std::fs::File;
@@ -16,14 +16,14 @@ use std::sync::Arc;
 use std::thread;
 
 impl<F: FileSystem> Server<F> {
-    /// Serves the requests of a device that returns one request for each read, as `/dev/fuse`, until it is
-    /// unmounted, or its other end closed. Any number of threads can do this at once. The last of them ends
-    /// the session by [`FileSystem::destroy`], if no DESTROY has.
+    /// Serves the requests of a device that returns one request for each read, such as `/dev/fuse`, until it
+    /// is unmounted, or until its other end is closed. Any number of threads may do this at once. The last of
+    /// them ends the session by [`FileSystem::destroy`], unless a DESTROY has ended it.
     ///
-    /// A request that is refused, or whose reply the kernel refuses, is answered EIO: only its caller is told.
-    /// So is one whose call panics, before the panic unwinds out of this function.
+    /// If a request is refused, or if the kernel refuses its reply, its caller receives EIO and the session
+    /// continues. If a call panics, its caller receives EIO before the panic unwinds out of this function.
     ///
-    /// [`FileSystem::begin`] is called before the first request, and [`FileSystem::take`] for each.
+    /// [`FileSystem::begin`] is called before the first request, and [`FileSystem::take`] for each request.
     ///
     /// # Errors
     /// Errors of reading and writing, except for replies that are no longer awaited; and of duplicating the
@@ -41,44 +41,44 @@ impl<F: FileSystem> Server<F> {
         Ok(())
     }
 
-    /// Serves the next request of a device, after it was shown. Returns whether there was one.
+    /// Calls `show` with the next request of a device, and serves it. Returns false at the end.
     pub(crate) fn serve_next(
         &self, device: &File, client: &Client, buffers: &mut Buffers, show: impl FnOnce(&[u8]),
     ) -> io::Result<bool> {
-        let Buffers { slot, request, room } = buffers;
+        let Buffers { scratch, request, reply } = buffers;
         let request = match read_next(device, request)? {
             0 => return Ok(false),
             len => &request[..len],
         };
         show(request);
         let serve = || {
-            let room = &mut [IoSliceMut::new(room)];
-            self.serve_by(slot, &[IoSlice::new(request)], room, Some(client))
+            let reply = &mut [IoSliceMut::new(reply)];
+            self.serve_by(scratch, &[IoSlice::new(request)], reply, Some(client))
         };
         // Nothing is used again after a panic.
         let done = catch_unwind(AssertUnwindSafe(serve)).unwrap_or_else(|panic| {
-            let _ = send_fault(device, request);
+            let _ = send_error(device, request);
             resume_unwind(panic)
         });
         match done.outcome {
-            Ok(()) => send(device, request, &room[..done.len])?,
-            Err(_) => send_fault(device, request)?,
+            Ok(()) => send(device, request, &reply[..done.len])?,
+            Err(_) => send_error(device, request)?,
         }
         Ok(true)
     }
 }
 
-/// What a thread that serves has for itself.
+/// The buffers of a thread that serves.
 pub(crate) struct Buffers {
-    slot: Slot,
+    scratch: Scratch,
     request: Vec<u8>,
-    room: Vec<u8>,
+    reply: Vec<u8>,
 }
 
 impl Buffers {
     pub fn new(session: &Session) -> Self {
         let longest = session.longest_message();
-        Buffers { slot: Slot::new(), request: vec![0; longest], room: vec![0; longest] }
+        Buffers { scratch: Scratch::new(), request: vec![0; longest], reply: vec![0; longest] }
     }
 }
 
@@ -86,7 +86,7 @@ impl Buffers {
 fn read_next(mut device: &File, request: &mut [u8]) -> io::Result<usize> {
     loop {
         match device.read(request) {
-            // It was unmounted; ECONNABORTED: just when a request was taken.
+            // It was unmounted; ECONNABORTED: while a request was being read.
             Err(error) if Errno::ENODEV.is(&error) || error.kind() == io::ErrorKind::ConnectionAborted => {
                 return Ok(0);
             }
@@ -101,7 +101,7 @@ fn read_next(mut device: &File, request: &mut [u8]) -> io::Result<usize> {
 struct Serving<'a, F: FileSystem>(&'a Server<F>);
 
 impl<'a, F: FileSystem> Serving<'a, F> {
-    /// The first one tells the file system of its client.
+    /// The first thread passes the client to the file system.
     fn new(server: &'a Server<F>, device: &Arc<File>, client: &Client) -> Self {
         let mut serving = guard(&server.serving);
         if serving.threads == 0 {
@@ -140,22 +140,22 @@ fn send(mut device: &File, request: &[u8], reply: &[u8]) -> io::Result<()> {
     }
     match device.write(reply) {
         Err(error) if is_unawaited(&error) => Ok(()),
-        Err(error) if Errno::EINVAL.is(&error) => send_fault(device, request),
+        Err(error) if Errno::EINVAL.is(&error) => send_error(device, request),
         Err(error) => Err(error),
         Ok(_) => Ok(()),
     }
 }
 
-/// Whether an error of sending a reply is that nobody waits for it any more.
+/// Whether an error of sending a reply means that the caller no longer waits for it.
 pub(crate) fn is_unawaited(error: &io::Error) -> bool {
     Errno::ENOENT.is(error)
 }
 
-/// Answers a request EIO, unless it has no reply, or no number.
-fn send_fault(device: &File, request: &[u8]) -> io::Result<()> {
+/// Sends EIO as the reply to a request, unless it has no reply, or no number.
+fn send_error(device: &File, request: &[u8]) -> io::Result<()> {
     const FORGET: [u8; 4] = number::FORGET.to_le_bytes();
     const BATCH_FORGET: [u8; 4] = number::BATCH_FORGET.to_le_bytes();
-    // Its number is that of a notice, and may be another request's, too.
+    // Its number is that of a notice, which another request may have, too.
     const NOTIFY_REPLY: [u8; 4] = number::NOTIFY_REPLY.to_le_bytes();
     let (opcode, unique) = match (request.get(4..8), request.get(8..16)) {
         (Some(opcode), Some(unique)) => (opcode, unique),
@@ -164,15 +164,15 @@ fn send_fault(device: &File, request: &[u8]) -> io::Result<()> {
     if [FORGET, BATCH_FORGET, NOTIFY_REPLY].iter().any(|it| opcode == it) || unique == [0; 8] {
         return Ok(());
     }
-    answer_fault(device, u64::from_le_bytes(unique.try_into().unwrap_or_default()))
+    send_eio(device, u64::from_le_bytes(unique.try_into().unwrap_or_default()))
 }
 
-/// Answers the request of this number EIO.
-pub(crate) fn answer_fault(mut device: &File, unique: u64) -> io::Result<()> {
+/// Sends EIO as the reply to the request of this number.
+pub(crate) fn send_eio(mut device: &File, unique: u64) -> io::Result<()> {
     let (len, error) = (16_u32.to_le_bytes(), (-Errno::EIO.number()).to_le_bytes());
     let fault = [&len[..], &error, &unique.to_le_bytes()].concat();
     match device.write(&fault) {
-        // It has been answered with this error already.
+        // It already has this reply.
         Err(error) if is_unawaited(&error) || Errno::EINVAL.is(&error) => Ok(()),
         sent => sent.map(drop),
     }
@@ -189,11 +189,11 @@ mod tests {
         let request = [7; 40];
         assert!(Errno::EINVAL.is(&(&device).write(&request).unwrap_err()));
         send(&device, &request, b"a reply").unwrap();
-        send_fault(&device, &request).unwrap();
+        send_error(&device, &request).unwrap();
         // Other errors are.
         let closed = File::open("/proc/self/oom_score_adj").unwrap();
         assert!(Errno::EBADF.is(&send(&closed, &request, b"a reply").unwrap_err()));
-        assert!(send_fault(&closed, &request).is_err());
-        send_fault(&closed, &request[..9]).unwrap();
+        assert!(send_error(&closed, &request).is_err());
+        send_error(&closed, &request[..9]).unwrap();
     }
 }

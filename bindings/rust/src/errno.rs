@@ -72,12 +72,12 @@ impl From<Errno> for io::Error {
 }
 
 /// The largest number that Linux takes in a reply.
-const MOST: i32 = 511;
+const MAX: i32 = 511;
 
-/// The number with which an error is answered: EIO for one without a number, and for numbers that Linux does not
-/// take.
+/// The number with which an error is answered: EIO for one without a number, and for numbers that Linux does
+/// not take.
 pub(crate) fn answered(error: &io::Error) -> Errno {
-    let number = error.raw_os_error().filter(|number| (1..=MOST).contains(number));
+    let number = error.raw_os_error().filter(|number| (1..=MAX).contains(number));
     number.map_or(Errno::EIO, Errno)
 }
 

@@ -5,7 +5,7 @@
 use crate::attr::{Attr, SetattrIn, Statvfs};
 use crate::errno::answered;
 use crate::file_system::Entry;
-use crate::flags::Offers;
+use crate::flags::Features;
 use std::ffi::{c_void, CStr};
 use std::fmt;
 use std::fs::File;
@@ -16,17 +16,17 @@ use std::os::raw::c_int;
 use std::os::unix::io::AsRawFd;
 use std::ptr;
 
-/// `nizwarf_slot`: a pointer to memory of the library, or null.
+/// `nizwarf_scratch`: a pointer to memory of the library, or null.
 #[repr(C)]
-struct RawSlot {
+struct RawScratch {
     at: *mut c_void,
 }
 
-impl RawSlot {
+impl RawScratch {
     /// Copies bytes of the reply, from offset `at` on, and returns how many.
     fn copy(&mut self, at: usize, piece: &mut [u8]) -> usize {
-        // SAFETY: the pointers are valid for this call, and the piece has that many bytes.
-        unsafe { nizwarf_copy_slot_at(self, at, piece.as_mut_ptr(), piece.len()) }
+        // SAFETY: the pointers are valid for this call, and `piece` has this length.
+        unsafe { nizwarf_scratch_copy_at(self, at, piece.as_mut_ptr(), piece.len()) }
     }
 }
 
@@ -51,7 +51,7 @@ records! {
     pub(crate) struct RawCall: 312 {
         [0] pub unique: u64,
         [8] pub options: u64,
-        [16] pub room: u64,
+        [16] pub reply_size: u64,
         [24] pub node: u64,
         [32] pub handle: u64,
         [40] pub offset: u64,
@@ -66,8 +66,8 @@ records! {
         [136] pub context_name: Range,
         [152] pub context: Range,
         [168] pub attr: SetattrIn,
-        [256] pub call: u32,
-        [260] pub answer: u32,
+        [256] pub opcode: u32,
+        [260] pub reply: u32,
         [264] pub has: u32,
         [268] pub uid: u32,
         [272] pub gid: u32,
@@ -94,7 +94,7 @@ records! {
         [40] pub attr: Attr,
     }
 
-    /// The first 224 bytes of `nizwarf_answer`, which are all that the library reads: text and items are
+    /// The first 224 bytes of `nizwarf_answer`, because the library reads no more: text and items are
     /// arguments of their own.
     #[derive(Debug)]
     pub(crate) struct RawAnswer: 224 {
@@ -108,18 +108,18 @@ records! {
         [160] pub statfs: Statvfs,
     }
 
-    /// An item of a directory listing, as a READDIR is answered with.
+    /// An item of a directory listing, for the answer to a READDIR.
     ///
     /// ```
-    /// use nizwarf::Item;
+    /// use nizwarf::DirItem;
     /// use std::ffi::CString;
     ///
     /// let name = CString::new("hello").unwrap();
-    /// let item = Item::new(2, 1, nizwarf::DT_REG, &name);
+    /// let item = DirItem::new(2, 1, nizwarf::DT_REG, &name);
     /// assert_eq!(item.record_len(false), 32);
     /// assert_eq!(item.record_len(true), 160);
     /// ```
-    pub struct Item<'a>: 168 {
+    pub struct DirItem<'a>: 168 {
         [0] ino: u64,
         [8] offset: u64,
         [16] name: *const u8,
@@ -130,9 +130,9 @@ records! {
         [168] lent: PhantomData<&'a CStr>,
     }
 
-    /// `nizwarf_init_more`.
+    /// `nizwarf_init_params`.
     #[derive(Debug)]
-    pub(crate) struct RawInitMore: 40 {
+    pub(crate) struct RawInitParams: 40 {
         [0] pub want: u64,
         [8] pub max_readahead: u32,
         [12] pub max_write: u32,
@@ -144,32 +144,35 @@ records! {
         [32] pub padding: u64,
     }
 
-    /// `nizwarf_told`.
+    /// `nizwarf_result`.
     #[derive(Debug, Default)]
-    pub(crate) struct RawTold: 48 {
+    pub(crate) struct RawResult: 48 {
         [0] pub len: u64,
-        [8] pub put: u64,
+        [8] pub written: u64,
         [16] pub options: u64,
-        [24] pub give_back: u64,
-        [32] pub taken: u64,
+        [24] pub forget: u64,
+        [32] pub entries: u64,
         [40] pub interrupts: u64,
     }
 }
 
-// `std` guarantees that `IoSlice` has the layout of `iovec`, which is that of `nizwarf_segment`.
+// `std` guarantees that `IoSlice` has the layout of `iovec`, which is that of `struct iovec`.
 extern "C" {
-    fn nizwarf_ask_offered_at(
-        slot: *mut RawSlot, session: *const RawSession, offers: u32, request: *const IoSlice<'_>,
-        segments: usize, room: usize, call: *mut RawCall, told: *mut RawTold,
+    fn nizwarf_decode_at(
+        scratch: *mut RawScratch, session: *const RawSession, features: u32, request: *const IoSlice<'_>,
+        segments: usize, reply_size: usize, call: *mut RawCall, result: *mut RawResult,
     ) -> i32;
-    fn nizwarf_answer_offered_at(
-        slot: *mut RawSlot, session: *const RawSession, call: *const RawCall, answer: *const RawAnswer,
-        text: *const u8, text_len: usize, items: *const Item<'_>, items_len: usize, told: *mut RawTold,
+    fn nizwarf_encode_at(
+        scratch: *mut RawScratch, session: *const RawSession, call: *const RawCall, answer: *const RawAnswer,
+        text: *const u8, text_len: usize, items: *const DirItem<'_>, items_len: usize,
+        result: *mut RawResult,
     ) -> i32;
-    fn nizwarf_copy_slot_at(slot: *mut RawSlot, at: usize, piece: *mut u8, piece_len: usize) -> usize;
-    fn nizwarf_end_slot_at(slot: *mut RawSlot) -> i32;
-    fn nizwarf_check_offered_at(
-        session: *const RawSession, offers: u32, request: *const u8, len: usize, room: usize,
+    fn nizwarf_scratch_copy_at(
+        scratch: *mut RawScratch, at: usize, piece: *mut u8, piece_len: usize,
+    ) -> usize;
+    fn nizwarf_scratch_free_at(scratch: *mut RawScratch) -> i32;
+    fn nizwarf_check_at(
+        session: *const RawSession, features: u32, request: *const u8, len: usize, reply_size: usize,
         call: *mut RawCall, interrupts: *mut u64,
     ) -> i32;
     fn nizwarf_print_request_at(
@@ -178,8 +181,8 @@ extern "C" {
     fn nizwarf_print_reply_at(
         request: *const u8, len: usize, reply: *const u8, reply_len: usize, text: *mut u8, text_len: usize,
     ) -> usize;
-    fn nizwarf_init_offered_at(request: *const u8, len: usize) -> u64;
-    fn nizwarf_add_to_init_at(reply: *mut u8, len: usize, offered: u64, more: *const RawInitMore) -> u64;
+    fn nizwarf_init_capable_at(request: *const u8, len: usize) -> u64;
+    fn nizwarf_add_to_init_at(reply: *mut u8, len: usize, capable: u64, params: *const RawInitParams) -> u64;
 }
 
 // A function of the C library that `std` does not have.
@@ -196,37 +199,39 @@ pub(crate) fn write_at(file: &File, piece: &[u8], off: u64, flags: i32) -> io::R
     usize::try_from(written).map_err(|_| io::Error::last_os_error())
 }
 
-/// Checks a request: a code, the call that it asks for, and the request that it interrupts.
-pub(crate) fn check(session: &RawSession, offers: u32, request: &[u8], room: usize) -> (i32, RawCall, u64) {
+/// Checks a request. Returns a code, its call, and the number of the request that it interrupts.
+pub(crate) fn check(
+    session: &RawSession, features: u32, request: &[u8], reply_size: usize,
+) -> (i32, RawCall, u64) {
     let (mut call, mut interrupts) = (RawCall::NONE, 0);
     let (at, len) = (request.as_ptr(), request.len());
     // SAFETY: all pointers are valid for this call, which keeps none.
     let code =
-        unsafe { nizwarf_check_offered_at(session, offers, at, len, room, &mut call, &mut interrupts) };
+        unsafe { nizwarf_check_at(session, features, at, len, reply_size, &mut call, &mut interrupts) };
     (code, call, interrupts)
 }
 
-/// The length of a reply to INIT that has further fields.
+/// The length of a reply to INIT that has parameters of the file system.
 pub(crate) const INIT_REPLY: usize = 80;
 
 /// Such a reply.
 pub(crate) type InitReply = [u8; INIT_REPLY];
 
-/// The further options that an INIT offers.
-pub(crate) fn further_of(request: &[IoSlice<'_>]) -> u64 {
-    /// How many bytes of it are enough.
+/// The options of which the client of an INIT is capable, as far as the library does not decode them itself.
+pub(crate) fn init_capable(request: &[IoSlice<'_>]) -> u64 {
+    /// The length of the request's header and record.
     const FRONT: usize = 104;
     let mut front = [0; FRONT];
     let bytes = request.iter().flat_map(|piece| piece.iter());
     let len = front.iter_mut().zip(bytes).map(|(to, byte)| *to = *byte).count();
-    // SAFETY: the pointer is that of an array, which has at least that many bytes.
-    unsafe { nizwarf_init_offered_at(front.as_ptr(), len) }
+    // SAFETY: the pointer is that of an array, which has at least `len` bytes.
+    unsafe { nizwarf_init_capable_at(front.as_ptr(), len) }
 }
 
-/// Puts further fields into a reply to INIT. Returns the further options that are agreed on.
-pub(crate) fn add_to_init(reply: &mut InitReply, offered: u64, more: &RawInitMore) -> u64 {
+/// Puts the parameters of a file system into a reply to INIT. Returns the options that are agreed on besides.
+pub(crate) fn add_to_init(reply: &mut InitReply, capable: u64, params: &RawInitParams) -> u64 {
     // SAFETY: both pointers are valid for this call, and the reply has this length.
-    unsafe { nizwarf_add_to_init_at(reply.as_mut_ptr(), reply.len(), offered, more) }
+    unsafe { nizwarf_add_to_init_at(reply.as_mut_ptr(), reply.len(), capable, params) }
 }
 
 /// Declares the notices: of each the fields, a name if it has one, and the function of the library.
@@ -245,8 +250,8 @@ macro_rules! notices {
         }
 
         impl Notice<'_> {
-            /// Puts it at the start of `out`, without the data that follow it. Returns its length, which is 0 if it
-            /// has no room.
+            /// Writes it to the start of `out`, without the data that follow it. Returns its length, or 0 if
+            /// it does not fit.
             pub fn put(self, out: &mut [u8]) -> usize {
                 let (at, out_len) = (out.as_mut_ptr(), out.len());
                 match self {
@@ -272,7 +277,7 @@ notices! {
     Prune { count: u32 } = nizwarf_notice_prune_at;
 }
 
-/// Has a line written into memory that is as long as the line, and a byte longer.
+/// Calls a function that writes a line and returns its length, with memory of that length and one byte more.
 fn line_of(write: impl Fn(&mut [u8]) -> usize) -> Vec<u8> {
     let mut line = vec![0; write(&mut []) + 1];
     write(&mut line);
@@ -299,12 +304,12 @@ pub(crate) fn reply_line(request: &[u8], reply: &[u8]) -> Vec<u8> {
     })
 }
 
-/// A call that waits for its answer, and the session in which it was asked.
+/// A call that waits for its answer, and the session in which its request was decoded.
 #[derive(Debug)]
 pub(crate) struct Pending {
     pub call: RawCall,
     pub session: RawSession,
-    /// The answer, in which the fields that its kind does not have are left as they were.
+    /// The answer. Only the fields of its kind are set.
     pub answer: RawAnswer,
 }
 
@@ -322,38 +327,23 @@ impl From<&Entry> for RawEntry {
     }
 }
 
-impl RawAnswer {
-    /// Success, with all other fields 0.
-    pub const DONE: Self = Self::NONE;
-
-    /// Answers an INIT with the options that are wanted.
-    pub fn set_options(&mut self, options: u64) {
-        self.count = options;
-    }
-
-    /// Answers with a place in the file.
-    pub fn set_offset(&mut self, offset: u64) {
-        self.count = offset;
-    }
-}
-
-impl<'a> Item<'a> {
+impl<'a> DirItem<'a> {
     /// Creates an item from what `readdir(3)` reports: `ino` is the inode number that programs see,
     /// `offset` the position after the item, from which a later READDIR continues, and `kind` its type,
     /// as [`DT_REG`](crate::DT_REG).
     #[must_use]
     pub fn new(ino: u64, offset: u64, kind: u32, name: &'a CStr) -> Self {
         let bytes = name.to_bytes_with_nul();
-        Item { ino, offset, name: bytes.as_ptr(), name_size: bytes.len(), type_: kind, ..Item::NONE }
+        DirItem { ino, offset, name: bytes.as_ptr(), name_size: bytes.len(), type_: kind, ..DirItem::NONE }
     }
 
-    /// Adds the result of looking the name up, which READDIRPLUS needs for all items but `.` and `..`;
-    /// for these it is ignored.
+    /// Adds the result of looking the name up. A READDIRPLUS needs it for all items except `.` and `..`, for
+    /// which it is ignored.
     #[must_use]
     pub fn looked_up(self, result: &io::Result<Entry>) -> Self {
         match result {
-            Ok(entry) => Item { entry: entry.into(), ..self },
-            Err(error) => Item { error: answered(error).number(), ..self },
+            Ok(entry) => DirItem { entry: entry.into(), ..self },
+            Err(error) => DirItem { error: answered(error).number(), ..self },
         }
     }
 
@@ -373,23 +363,23 @@ impl<'a> Item<'a> {
         matches!(self.name().to_bytes(), b"." | b"..")
     }
 
-    /// Returns how many bytes of the `size` of a READDIR it takes, or with `plus` of a READDIRPLUS.
+    /// Returns the length of its record in the reply to a READDIR, or with `plus` to a READDIRPLUS.
     #[must_use]
     pub fn record_len(&self, plus: bool) -> usize {
         let entry = if plus { 128 } else { 0 };
         entry + ((24 + self.name_size - 1 + 7) & !7)
     }
 
-    /// Returns the node of which it holds a lookup, if it does.
-    pub(crate) fn held(&self) -> Option<u64> {
-        let held = self.error == 0 && self.entry.node != 0 && !self.is_dot();
-        held.then_some(self.entry.node)
+    /// Returns the node of its lookup, if it has one.
+    pub(crate) fn lookup(&self) -> Option<u64> {
+        let is_lookup = self.error == 0 && self.entry.node != 0 && !self.is_dot();
+        is_lookup.then_some(self.entry.node)
     }
 }
 
-impl fmt::Debug for Item<'_> {
+impl fmt::Debug for DirItem<'_> {
     fn fmt(&self, f: &mut fmt::Formatter<'_>) -> fmt::Result {
-        f.debug_struct("Item")
+        f.debug_struct("DirItem")
             .field("name", &self.name())
             .field("ino", &self.ino)
             .field("offset", &self.offset)
@@ -400,26 +390,27 @@ impl fmt::Debug for Item<'_> {
 }
 
 // SAFETY: its pointer is a `&CStr`, which is `Send` and `Sync`.
-unsafe impl Send for Item<'_> {}
+unsafe impl Send for DirItem<'_> {}
 // SAFETY: as above.
-unsafe impl Sync for Item<'_> {}
+unsafe impl Sync for DirItem<'_> {}
 
-/// Memory for one call of the library at a time.
+/// Scratch memory, in which requests are decoded and replies encoded, one at a time.
 ///
-/// It keeps no state from one call to the next, so one slot for each thread is enough for any number of
-/// requests in flight. It grows to the size of the longest reply buffer that it was used with.
+/// It keeps no state from one request to the next, so each thread should have one, which suffices for any
+/// number of requests in flight. It grows to the size of the longest reply buffer that it was used with, and
+/// is freed when it is dropped.
 ///
 /// ```
-/// use nizwarf::{Asked, Refusal, Session, Slot};
+/// use nizwarf::{Decoded, Refusal, Scratch, Session};
 ///
-/// let mut slot = Slot::new();
-/// match slot.ask(&Session::default(), &[], 4096) {
-///     Asked::Finished(done) => assert_eq!(done.outcome, Err(Refusal::DecodeMessage)),
-///     Asked::Call(_) => unreachable!("no bytes are no request"),
+/// let mut scratch = Scratch::new();
+/// match scratch.decode(&Session::default(), &[], 4096) {
+///     Decoded::Finished(done) => assert_eq!(done.outcome, Err(Refusal::DecodeMessage)),
+///     Decoded::Call(_) => unreachable!("no bytes are no request"),
 /// }
 /// ```
-pub struct Slot {
-    raw: RawSlot,
+pub struct Scratch {
+    raw: RawScratch,
     reply: Vec<u8>,
     /// The box of an answered call, for the next one.
     spare: Option<Box<Pending>>,
@@ -427,15 +418,15 @@ pub struct Slot {
 
 // SAFETY: it owns memory of `malloc`, to which the library has no other pointer, and uses no thread-local
 // state.
-unsafe impl Send for Slot {}
-// SAFETY: nothing can be done with a `&Slot`: each function of the library takes a `&mut Slot`.
-unsafe impl Sync for Slot {}
+unsafe impl Send for Scratch {}
+// SAFETY: nothing can be done with a `&Scratch`: each function of the library takes a `&mut Scratch`.
+unsafe impl Sync for Scratch {}
 
-impl Slot {
-    /// Creates a slot without memory. The first request allocates it.
+impl Scratch {
+    /// Creates an empty one. The first request allocates its memory.
     #[must_use]
     pub const fn new() -> Self {
-        Slot { raw: RawSlot { at: ptr::null_mut() }, reply: Vec::new(), spare: None }
+        Scratch { raw: RawScratch { at: ptr::null_mut() }, reply: Vec::new(), spare: None }
     }
 
     /// Returns a box for a call.
@@ -445,7 +436,7 @@ impl Slot {
                 pending.session = session;
                 pending
             }
-            None => Box::new(Pending { call: RawCall::NONE, session, answer: RawAnswer::DONE }),
+            None => Box::new(Pending { call: RawCall::NONE, session, answer: RawAnswer::NONE }),
         }
     }
 
@@ -454,40 +445,40 @@ impl Slot {
         self.spare = Some(pending);
     }
 
-    /// Asks the library for the call of a request. It is in `pending` if the code is [`ASKED`](crate::numbers::code::ASKED).
-    pub(crate) fn ask_raw(
-        &mut self, pending: &mut Pending, offers: Offers, request: &[IoSlice<'_>], room: usize,
-    ) -> (i32, RawTold) {
+    /// Decodes a request. Its call is in `pending` if the code is `code::CALL`.
+    pub(crate) fn decode_raw(
+        &mut self, pending: &mut Pending, features: Features, request: &[IoSlice<'_>], reply_size: usize,
+    ) -> (i32, RawResult) {
         let Pending { call, session, .. } = pending;
-        call.call = 0;
-        let mut told = RawTold { options: session.options, ..RawTold::default() };
+        call.opcode = 0;
+        let mut result = RawResult { options: session.options, ..RawResult::default() };
         // SAFETY: all pointers are valid for this call and none is null. The slices are initialised bytes
-        // that do not change while they are borrowed. As the header requires, `call.call` is 0, and
-        // `told` is zero except for the options.
+        // that do not change while they are borrowed. As the header requires, `call.opcode` is 0, and
+        // `result` is zero except for the options.
         let code = unsafe {
-            nizwarf_ask_offered_at(
+            nizwarf_decode_at(
                 &mut self.raw,
                 session,
-                offers.bits(),
+                features.bits(),
                 request.as_ptr(),
                 request.len(),
-                room,
+                reply_size,
                 call,
-                &mut told,
+                &mut result,
             )
         };
-        (code, told)
+        (code, result)
     }
 
-    pub(crate) fn answer_raw(
-        &mut self, pending: &Pending, text: &[u8], items: &[Item<'_>],
-    ) -> (i32, RawTold) {
+    pub(crate) fn encode_raw(
+        &mut self, pending: &Pending, text: &[u8], items: &[DirItem<'_>],
+    ) -> (i32, RawResult) {
         let Pending { call, session, answer } = pending;
-        let mut told = RawTold { options: call.options, ..RawTold::default() };
+        let mut result = RawResult { options: call.options, ..RawResult::default() };
         // SAFETY: all pointers are valid for this call and none is null, not even those of length 0. The
         // library reads no more of the answer than there is. The names of items outlive the items.
         let code = unsafe {
-            nizwarf_answer_offered_at(
+            nizwarf_encode_at(
                 &mut self.raw,
                 session,
                 call,
@@ -496,10 +487,10 @@ impl Slot {
                 text.len(),
                 items.as_ptr(),
                 items.len(),
-                &mut told,
+                &mut result,
             )
         };
-        (code, told)
+        (code, result)
     }
 
     /// Copies bytes of the reply, from offset `at` on, and returns how many.
@@ -517,25 +508,25 @@ impl Slot {
     }
 }
 
-impl Default for Slot {
+impl Default for Scratch {
     fn default() -> Self {
         Self::new()
     }
 }
 
-impl fmt::Debug for Slot {
+impl fmt::Debug for Scratch {
     fn fmt(&self, f: &mut fmt::Formatter<'_>) -> fmt::Result {
-        f.debug_struct("Slot").finish_non_exhaustive()
+        f.debug_struct("Scratch").finish_non_exhaustive()
     }
 }
 
-impl Drop for Slot {
+impl Drop for Scratch {
     fn drop(&mut self) {
-        // SAFETY: the pointer is valid for this call, and the slot is not used after it. One without
-        // memory may be ended, too.
-        unsafe { nizwarf_end_slot_at(&mut self.raw) };
+        // SAFETY: the pointer is valid for this call, and the memory is not used after it. A null pointer may
+        // be freed, too.
+        unsafe { nizwarf_scratch_free_at(&mut self.raw) };
     }
 }
 
-const _: () = assert!(size_of::<RawSlot>() == 8);
+const _: () = assert!(size_of::<RawScratch>() == 8);
 const _: () = assert!(size_of::<IoSlice<'_>>() == 16);

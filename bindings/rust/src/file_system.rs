@@ -5,8 +5,8 @@ use crate::attr::{Attr, SetattrIn, Statvfs};
 use crate::call::Call;
 use crate::client::Client;
 use crate::errno::Errno;
-use crate::flags::{FsOptions, IoctlFlags, Offers, OpenOptions, SetattrValid, SetxattrFlags, WritevFlags};
-use crate::further::{IoctlReply, Limits, Lock, PollHandle, Statx};
+use crate::flags::{Features, FsOptions, IoctlFlags, OpenOptions, SetattrValid, SetxattrFlags, WritevFlags};
+use crate::optional::{IoctlReply, Limits, Lock, PollHandle, Statx};
 use std::ffi::{CStr, CString};
 use std::fs::File;
 use std::io;
@@ -15,24 +15,27 @@ use std::time::Duration;
 /// The node number of the root directory.
 pub const ROOT_ID: u64 = 1;
 
-/// The type of a directory, in a [`DirEntry`] or an [`Item`](crate::Item).
-pub const DT_DIR: u32 = 4;
-/// The type of a regular file, there.
-pub const DT_REG: u32 = 8;
-/// The type of a symbolic link, there.
-pub const DT_LNK: u32 = 10;
-/// An unknown type, there.
-pub const DT_UNKNOWN: u32 = 0;
-
-fn not_served<T>() -> io::Result<T> {
-    Err(Errno::ENOSYS.into())
+/// Declares methods of a trait. One without a body returns ENOSYS.
+macro_rules! methods {
+    (body ;) => { Err(Errno::ENOSYS.into()) };
+    (body $body:block) => { $body };
+    ($(
+        $(#[$about:meta])*
+        fn $name:ident $(<$Type:ident: $Bound:ident>)? (&self $(, $argument:ident: $type:ty)* $(,)?)
+            -> io::Result<$result:ty> $body:tt
+    )*) => {$(
+        $(#[$about])*
+        fn $name $(<$Type: $Bound>)? (&self $(, $argument: $type)*) -> io::Result<$result> {
+            methods!(body $body)
+        }
+    )*};
 }
 
 /// The result of looking a name up, or of creating it.
 #[derive(Clone, Copy, Debug, Default, PartialEq, Eq)]
 pub struct Entry {
-    /// The number of the node, of which the client then holds one more lookup. 0 says that there is no such
-    /// name, which is valid for `entry_timeout`, and is no lookup.
+    /// The number of the node, for which this is one more lookup. 0 means that the name does not exist; this
+    /// is valid for `entry_timeout`, and no lookup.
     pub inode: u64,
     /// The generation. The pair of number and generation must be unique for the life of the file system.
     pub generation: u64,
@@ -51,7 +54,7 @@ pub struct DirEntry<'a> {
     pub ino: u64,
     /// The position after the item, from which a later READDIR continues. It is not 0.
     pub offset: u64,
-    /// Its type, as [`DT_REG`].
+    /// Its type, such as [`DT_REG`](crate::DT_REG).
     pub type_: u32,
     /// Its name.
     pub name: &'a CStr,
@@ -199,10 +202,11 @@ impl<W: ZeroCopyWriter> ZeroCopyWriter for &mut W {
     }
 }
 
-/// A file system. Each method is a call of the protocol, and returns ENOSYS by default, unless it is documented
-/// otherwise. The methods and their arguments are those of the trait of virtiofsd 1.13.2, but for the last ones, from
-/// [`offers`](Self::offers) on, which serve what that does not. [`Errno`] names errors;
-/// one without a number has that of its [`kind`](io::Error::kind), as ENOENT for `NotFound`, or else is EIO.
+/// A file system. Each method is a call of the protocol, and returns ENOSYS by default, unless it is
+/// documented otherwise. The methods and their arguments are those of the trait of virtiofsd 1.13.2, except
+/// for the last ones, from [`features`](Self::features) on, which serve optional operations. [`Errno`] names
+/// errors. An error without a number has that of its [`kind`](io::Error::kind), such as ENOENT for
+/// `NotFound`, or otherwise is EIO.
 ///
 /// Each entry that is returned, except one of node 0, is a lookup of its node, and [`forget`](Self::forget)
 /// drops lookups. A node must be kept while it has lookups, even if it has no name any more.
@@ -244,33 +248,34 @@ pub trait FileSystem {
     type DirIter: DirectoryIterator;
 
     /// Begins a session, and returns the options that the file system wants. Those that are not in `capable`
-    /// are ignored. By default it wants none.
+    /// are ignored. By default it wants no options.
     ///
-    /// Two of them are for a file system that knows them:
+    /// Two of them require something of the file system:
     ///
-    /// - With [`ATOMIC_O_TRUNC`](FsOptions::ATOMIC_O_TRUNC) [`open`](Self::open) truncates what it opens with
-    ///   `O_TRUNC`. Without it Linux calls [`setattr`](Self::setattr) for that.
+    /// - With [`ATOMIC_O_TRUNC`](FsOptions::ATOMIC_O_TRUNC) [`open`](Self::open) must truncate a file that it
+    ///   opens with `O_TRUNC`. Without it Linux calls [`setattr`](Self::setattr) for that.
     /// - With [`ALLOW_IDMAP`](FsOptions::ALLOW_IDMAP) Linux mounts only with `default_permissions`, and the
-    ///   [`Context`] has a user and a group only in calls that make a node: others have 2^32 - 1.
+    ///   [`Context`] has a user and a group only in calls that create a node: otherwise both are 2^32 - 1.
     ///
-    /// A few others are agreed on without being wanted, unless [`Server::withhold`](crate::Server::withhold)
-    /// declines them: [`withhold`](crate::withhold()) lists them.
+    /// Some others, which [`withhold`](crate::withhold()) lists, are agreed on even if they are not wanted,
+    /// unless [`Server::withhold`](crate::Server::withhold) removes them.
     fn init(&self, capable: FsOptions) -> io::Result<FsOptions> {
         Ok(FsOptions::empty())
     }
 
-    /// Ends the session: there are no lookups and no open handles after it. It is called at a DESTROY, or, if
-    /// there was none, when [`Server::serve`](crate::Server::serve) ends. By default it does nothing.
+    /// Ends the session: there are no lookups and no open handles after it. It is called for a DESTROY, or,
+    /// if the client sent none, when [`Server::serve`](crate::Server::serve) ends. By default it does
+    /// nothing.
     fn destroy(&self) {}
 
-    /// Is told that nobody waits any more for the request of this number, which is that of its
-    /// [`Context`]: its call may end with EINTR. Another thread may be in that call, or has not begun it, or
-    /// has answered it. By default it does nothing.
+    /// Interrupts the request of this number, which is that of its [`Context`], because its caller got a
+    /// signal. Its call may return EINTR. Another thread may be in that call, or may not have begun it, or
+    /// may have answered it already. By default it does nothing.
     fn interrupt(&self, unique: u64) {}
 
     /// Looks a name up.
     fn lookup(&self, ctx: Context, parent: Self::Inode, name: &CStr) -> io::Result<Entry> {
-        not_served()
+        Err(Errno::ENOSYS.into())
     }
 
     /// Drops `count` lookups of a node. By default it does nothing.
@@ -283,267 +288,218 @@ pub trait FileSystem {
         }
     }
 
-    /// Returns attributes, and how long they are valid.
-    fn getattr(
-        &self, ctx: Context, inode: Self::Inode, handle: Option<Self::Handle>,
-    ) -> io::Result<(Attr, Duration)> {
-        not_served()
+    methods! {
+        /// Returns attributes, and how long they are valid.
+        fn getattr(
+            &self, ctx: Context, inode: Self::Inode, handle: Option<Self::Handle>,
+        ) -> io::Result<(Attr, Duration)>;
+
+        /// Sets the attributes that `valid` names. Returns all attributes, and how long they are valid.
+        fn setattr(
+            &self, ctx: Context, inode: Self::Inode, attr: SetattrIn, handle: Option<Self::Handle>,
+            valid: SetattrValid,
+        ) -> io::Result<(Attr, Duration)>;
+
+        /// Reads a symbolic link: at most 4095 bytes.
+        fn readlink(&self, ctx: Context, inode: Self::Inode) -> io::Result<Vec<u8>>;
+
+        /// Creates a symbolic link.
+        fn symlink(
+            &self, ctx: Context, linkname: &CStr, parent: Self::Inode, name: &CStr, extensions: Extensions,
+        ) -> io::Result<Entry>;
+
+        /// Creates a node. With [`FsOptions::DONT_MASK`] it must apply the umask.
+        fn mknod(
+            &self, ctx: Context, inode: Self::Inode, name: &CStr, mode: u32, rdev: u32, umask: u32,
+            extensions: Extensions,
+        ) -> io::Result<Entry>;
+
+        /// Creates a directory. With [`FsOptions::DONT_MASK`] it must apply the umask.
+        fn mkdir(
+            &self, ctx: Context, parent: Self::Inode, name: &CStr, mode: u32, umask: u32,
+            extensions: Extensions,
+        ) -> io::Result<Entry>;
+
+        /// Removes a file.
+        fn unlink(&self, ctx: Context, parent: Self::Inode, name: &CStr) -> io::Result<()>;
+
+        /// Removes a directory.
+        fn rmdir(&self, ctx: Context, parent: Self::Inode, name: &CStr) -> io::Result<()>;
+
+        /// Renames a node. The flags are those of `renameat2(2)`.
+        fn rename(
+            &self, ctx: Context, olddir: Self::Inode, oldname: &CStr, newdir: Self::Inode, newname: &CStr,
+            flags: u32,
+        ) -> io::Result<()>;
+
+        /// Creates a hard link.
+        fn link(
+            &self, ctx: Context, inode: Self::Inode, newparent: Self::Inode, newname: &CStr,
+        ) -> io::Result<Entry>;
+
+        /// Opens a file. The flags are those of `open(2)`; `O_TRUNC` is among them only if
+        /// [`init`](Self::init) wanted [`ATOMIC_O_TRUNC`](FsOptions::ATOMIC_O_TRUNC). By default it succeeds
+        /// without a handle.
+        fn open(
+            &self, ctx: Context, inode: Self::Inode, kill_priv: bool, flags: u32,
+        ) -> io::Result<(Option<Self::Handle>, OpenOptions)> {
+            Ok((None, OpenOptions::empty()))
+        }
+
+        /// Creates and opens a file. With [`FsOptions::DONT_MASK`] it must apply the umask.
+        fn create(
+            &self, ctx: Context, parent: Self::Inode, name: &CStr, mode: u32, kill_priv: bool, flags: u32,
+            umask: u32, extensions: Extensions,
+        ) -> io::Result<(Entry, Option<Self::Handle>, OpenOptions)>;
+
+        /// Reads at most `size` bytes of a file into `w`, and returns how many.
+        fn read<W: ZeroCopyWriter>(
+            &self, ctx: Context, inode: Self::Inode, handle: Self::Handle, w: W, size: u32, offset: u64,
+            lock_owner: Option<u64>, flags: u32,
+        ) -> io::Result<usize>;
+
+        /// Writes at most `size` bytes of `r` to a file, and returns how many.
+        fn write<R: ZeroCopyReader>(
+            &self, ctx: Context, inode: Self::Inode, handle: Self::Handle, r: R, size: u32, offset: u64,
+            lock_owner: Option<u64>, delayed_write: bool, kill_priv: bool, flags: u32,
+        ) -> io::Result<usize>;
+
+        /// Flushes a file. It is called whenever a descriptor of an open file is closed.
+        fn flush(
+            &self, ctx: Context, inode: Self::Inode, handle: Self::Handle, lock_owner: u64,
+        ) -> io::Result<()>;
+
+        /// Synchronizes a file: with `datasync` only its data.
+        fn fsync(
+            &self, ctx: Context, inode: Self::Inode, datasync: bool, handle: Self::Handle,
+        ) -> io::Result<()>;
+
+        /// Allocates or deallocates space of a file, as `fallocate(2)`.
+        fn fallocate(
+            &self, ctx: Context, inode: Self::Inode, handle: Self::Handle, mode: u32, offset: u64,
+            length: u64,
+        ) -> io::Result<()>;
+
+        /// Closes a file. With `flush` it must also flush it, as [`flush`](Self::flush); with `flock_release`
+        /// it must release the locks of `flock(2)`.
+        fn release(
+            &self, ctx: Context, inode: Self::Inode, flags: u32, handle: Self::Handle, flush: bool,
+            flock_release: bool, lock_owner: Option<u64>,
+        ) -> io::Result<()>;
+
+        /// Returns statistics. By default they are zeros, except blocks of 512 bytes and names of 255 bytes.
+        fn statfs(&self, ctx: Context, inode: Self::Inode) -> io::Result<Statvfs> {
+            Ok(Statvfs { f_bsize: 512, f_namemax: 255, ..Statvfs::default() })
+        }
+
+        /// Sets an extended attribute. The flags are those of `setxattr(2)`.
+        fn setxattr(
+            &self, ctx: Context, inode: Self::Inode, name: &CStr, value: &[u8], flags: u32,
+            extra_flags: SetxattrFlags,
+        ) -> io::Result<()>;
+
+        /// Returns an extended attribute, or its length if `size` is 0. If the value is longer than `size`,
+        /// the reply is ERANGE.
+        fn getxattr(
+            &self, ctx: Context, inode: Self::Inode, name: &CStr, size: u32,
+        ) -> io::Result<GetxattrReply>;
+
+        /// Returns the names of all extended attributes, or their length if `size` is 0. If the names are
+        /// longer than `size`, the reply is ERANGE.
+        fn listxattr(&self, ctx: Context, inode: Self::Inode, size: u32) -> io::Result<ListxattrReply>;
+
+        /// Removes an extended attribute.
+        fn removexattr(&self, ctx: Context, inode: Self::Inode, name: &CStr) -> io::Result<()>;
+
+        /// Opens a directory. By default it succeeds without a handle.
+        fn opendir(
+            &self, ctx: Context, inode: Self::Inode, flags: u32,
+        ) -> io::Result<(Option<Self::Handle>, OpenOptions)> {
+            Ok((None, OpenOptions::empty()))
+        }
+
+        /// Returns the items of a directory after a position, which is that of an earlier item, or 0. For a
+        /// READDIRPLUS the server looks each up, except `.` and `..`.
+        fn readdir(
+            &self, ctx: Context, inode: Self::Inode, handle: Self::Handle, size: u32, offset: u64,
+        ) -> io::Result<Self::DirIter>;
+
+        /// Synchronizes a directory.
+        fn fsyncdir(
+            &self, ctx: Context, inode: Self::Inode, datasync: bool, handle: Self::Handle,
+        ) -> io::Result<()>;
+
+        /// Closes a directory.
+        fn releasedir(
+            &self, ctx: Context, inode: Self::Inode, flags: u32, handle: Self::Handle,
+        ) -> io::Result<()>;
+
+        /// Checks whether the caller has the permissions in `mask`, as `access(2)`.
+        fn access(&self, ctx: Context, inode: Self::Inode, mask: u32) -> io::Result<()>;
+
+        /// Finds data or holes, as `lseek(2)`.
+        fn lseek(
+            &self, ctx: Context, inode: Self::Inode, handle: Self::Handle, offset: u64, whence: u32,
+        ) -> io::Result<u64>;
+
+        /// Copies from one file to another, as `copy_file_range(2)`, and returns the number of bytes. Unless
+        /// [`COPY_64`](Features::COPY_64) is enabled, `len` is at most `0xffff_f000`, because the reply has
+        /// 32 bits for the count.
+        fn copyfilerange(
+            &self, ctx: Context, inode_in: Self::Inode, handle_in: Self::Handle, offset_in: u64,
+            inode_out: Self::Inode, handle_out: Self::Handle, offset_out: u64, len: u64, flags: u64,
+        ) -> io::Result<usize>;
+
+        /// Synchronizes the file system.
+        fn syncfs(&self, ctx: Context, inode: Self::Inode) -> io::Result<()>;
     }
 
-    /// Sets the attributes that `valid` names. Returns all attributes, and how long they are valid.
-    fn setattr(
-        &self, ctx: Context, inode: Self::Inode, attr: SetattrIn, handle: Option<Self::Handle>,
-        valid: SetattrValid,
-    ) -> io::Result<(Attr, Duration)> {
-        not_served()
-    }
-
-    /// Reads a symbolic link: at most 4095 bytes.
-    fn readlink(&self, ctx: Context, inode: Self::Inode) -> io::Result<Vec<u8>> {
-        not_served()
-    }
-
-    /// Creates a symbolic link.
-    fn symlink(
-        &self, ctx: Context, linkname: &CStr, parent: Self::Inode, name: &CStr, extensions: Extensions,
-    ) -> io::Result<Entry> {
-        not_served()
-    }
-
-    /// Creates a node. With [`FsOptions::DONT_MASK`] it must apply the umask.
-    fn mknod(
-        &self, ctx: Context, inode: Self::Inode, name: &CStr, mode: u32, rdev: u32, umask: u32,
-        extensions: Extensions,
-    ) -> io::Result<Entry> {
-        not_served()
-    }
-
-    /// Creates a directory. With [`FsOptions::DONT_MASK`] it must apply the umask.
-    fn mkdir(
-        &self, ctx: Context, parent: Self::Inode, name: &CStr, mode: u32, umask: u32, extensions: Extensions,
-    ) -> io::Result<Entry> {
-        not_served()
-    }
-
-    /// Removes a file.
-    fn unlink(&self, ctx: Context, parent: Self::Inode, name: &CStr) -> io::Result<()> {
-        not_served()
-    }
-
-    /// Removes a directory.
-    fn rmdir(&self, ctx: Context, parent: Self::Inode, name: &CStr) -> io::Result<()> {
-        not_served()
-    }
-
-    /// Renames a node. The flags are those of `renameat2(2)`.
-    fn rename(
-        &self, ctx: Context, olddir: Self::Inode, oldname: &CStr, newdir: Self::Inode, newname: &CStr,
-        flags: u32,
-    ) -> io::Result<()> {
-        not_served()
-    }
-
-    /// Creates a hard link.
-    fn link(
-        &self, ctx: Context, inode: Self::Inode, newparent: Self::Inode, newname: &CStr,
-    ) -> io::Result<Entry> {
-        not_served()
-    }
-
-    /// Opens a file. The flags are those of `open(2)`; `O_TRUNC` is among them only if
-    /// [`init`](Self::init) wanted [`ATOMIC_O_TRUNC`](FsOptions::ATOMIC_O_TRUNC). By default it succeeds
-    /// without a handle.
-    fn open(
-        &self, ctx: Context, inode: Self::Inode, kill_priv: bool, flags: u32,
-    ) -> io::Result<(Option<Self::Handle>, OpenOptions)> {
-        Ok((None, OpenOptions::empty()))
-    }
-
-    /// Creates and opens a file. With [`FsOptions::DONT_MASK`] it must apply the umask.
-    fn create(
-        &self, ctx: Context, parent: Self::Inode, name: &CStr, mode: u32, kill_priv: bool, flags: u32,
-        umask: u32, extensions: Extensions,
-    ) -> io::Result<(Entry, Option<Self::Handle>, OpenOptions)> {
-        not_served()
-    }
-
-    /// Reads at most `size` bytes of a file into `w`, and returns how many.
-    fn read<W: ZeroCopyWriter>(
-        &self, ctx: Context, inode: Self::Inode, handle: Self::Handle, w: W, size: u32, offset: u64,
-        lock_owner: Option<u64>, flags: u32,
-    ) -> io::Result<usize> {
-        not_served()
-    }
-
-    /// Writes at most `size` bytes of `r` to a file, and returns how many.
-    fn write<R: ZeroCopyReader>(
-        &self, ctx: Context, inode: Self::Inode, handle: Self::Handle, r: R, size: u32, offset: u64,
-        lock_owner: Option<u64>, delayed_write: bool, kill_priv: bool, flags: u32,
-    ) -> io::Result<usize> {
-        not_served()
-    }
-
-    /// Is called whenever a descriptor of an open file is closed.
-    fn flush(
-        &self, ctx: Context, inode: Self::Inode, handle: Self::Handle, lock_owner: u64,
-    ) -> io::Result<()> {
-        not_served()
-    }
-
-    /// Synchronizes a file: with `datasync` only its data.
-    fn fsync(
-        &self, ctx: Context, inode: Self::Inode, datasync: bool, handle: Self::Handle,
-    ) -> io::Result<()> {
-        not_served()
-    }
-
-    /// Allocates or deallocates space of a file, as `fallocate(2)`.
-    fn fallocate(
-        &self, ctx: Context, inode: Self::Inode, handle: Self::Handle, mode: u32, offset: u64, length: u64,
-    ) -> io::Result<()> {
-        not_served()
-    }
-
-    /// Closes a file. With `flush` it does what a FLUSH does, with `flock_release` it releases locks of
-    /// `flock(2)`.
-    fn release(
-        &self, ctx: Context, inode: Self::Inode, flags: u32, handle: Self::Handle, flush: bool,
-        flock_release: bool, lock_owner: Option<u64>,
-    ) -> io::Result<()> {
-        not_served()
-    }
-
-    /// Returns statistics. By default they are zeros, except blocks of 512 bytes and names of 255 bytes.
-    fn statfs(&self, ctx: Context, inode: Self::Inode) -> io::Result<Statvfs> {
-        Ok(Statvfs { f_bsize: 512, f_namemax: 255, ..Statvfs::default() })
-    }
-
-    /// Sets an extended attribute. The flags are those of `setxattr(2)`.
-    fn setxattr(
-        &self, ctx: Context, inode: Self::Inode, name: &CStr, value: &[u8], flags: u32,
-        extra_flags: SetxattrFlags,
-    ) -> io::Result<()> {
-        not_served()
-    }
-
-    /// Returns an extended attribute, or its length if `size` is 0. A value that is longer than `size` is
-    /// answered ERANGE.
-    fn getxattr(
-        &self, ctx: Context, inode: Self::Inode, name: &CStr, size: u32,
-    ) -> io::Result<GetxattrReply> {
-        not_served()
-    }
-
-    /// Returns the names of all extended attributes, or their length if `size` is 0. Names that are longer
-    /// than `size` are answered ERANGE.
-    fn listxattr(&self, ctx: Context, inode: Self::Inode, size: u32) -> io::Result<ListxattrReply> {
-        not_served()
-    }
-
-    /// Removes an extended attribute.
-    fn removexattr(&self, ctx: Context, inode: Self::Inode, name: &CStr) -> io::Result<()> {
-        not_served()
-    }
-
-    /// Opens a directory. By default it succeeds without a handle.
-    fn opendir(
-        &self, ctx: Context, inode: Self::Inode, flags: u32,
-    ) -> io::Result<(Option<Self::Handle>, OpenOptions)> {
-        Ok((None, OpenOptions::empty()))
-    }
-
-    /// Returns the items of a directory after a position, which is that of an earlier item, or 0. For a
-    /// READDIRPLUS the server looks each up, except `.` and `..`.
-    fn readdir(
-        &self, ctx: Context, inode: Self::Inode, handle: Self::Handle, size: u32, offset: u64,
-    ) -> io::Result<Self::DirIter> {
-        not_served()
-    }
-
-    /// Synchronizes a directory.
-    fn fsyncdir(
-        &self, ctx: Context, inode: Self::Inode, datasync: bool, handle: Self::Handle,
-    ) -> io::Result<()> {
-        not_served()
-    }
-
-    /// Closes a directory.
-    fn releasedir(
-        &self, ctx: Context, inode: Self::Inode, flags: u32, handle: Self::Handle,
-    ) -> io::Result<()> {
-        not_served()
-    }
-
-    /// Checks whether the caller has the permissions in `mask`, as `access(2)`.
-    fn access(&self, ctx: Context, inode: Self::Inode, mask: u32) -> io::Result<()> {
-        not_served()
-    }
-
-    /// Finds data or holes, as `lseek(2)`.
-    fn lseek(
-        &self, ctx: Context, inode: Self::Inode, handle: Self::Handle, offset: u64, whence: u32,
-    ) -> io::Result<u64> {
-        not_served()
-    }
-
-    /// Copies from one file to another, as `copy_file_range(2)`, and returns how many bytes. Unless
-    /// [`COPY_64`](Offers::COPY_64) is offered, `len` is at most `0xffff_f000`, because the reply has 32 bits for the
-    /// count.
-    fn copyfilerange(
-        &self, ctx: Context, inode_in: Self::Inode, handle_in: Self::Handle, offset_in: u64,
-        inode_out: Self::Inode, handle_out: Self::Handle, offset_out: u64, len: u64, flags: u64,
-    ) -> io::Result<usize> {
-        not_served()
-    }
-
-    /// Synchronizes the file system.
-    fn syncfs(&self, ctx: Context, inode: Self::Inode) -> io::Result<()> {
-        not_served()
-    }
-
-    /// Returns which further calls it serves, of those that virtiofsd does not. By default it serves none. It is
-    /// the same for the whole session.
+    /// Returns the optional operations that the file system serves, which virtiofsd does not. They must not
+    /// change during a session. By default the set is empty.
     ///
-    /// Linux takes a call that was answered ENOSYS for one that is not there, and does not ask for it again.
-    fn offers(&self) -> Offers {
-        Offers::empty()
+    /// If the reply to an operation is ENOSYS, Linux does not request that operation again during the
+    /// session.
+    fn features(&self) -> Features {
+        Features::empty()
     }
 
-    /// Returns limits that the client is told at the INIT, after [`init`](Self::init). By default it has those of
-    /// virtiofsd.
+    /// Returns limits, which the reply to the INIT has. It is called after [`init`](Self::init). By default
+    /// they are those of virtiofsd.
     fn limits(&self) -> Limits {
         Limits::default()
     }
 
-    /// Is told of its client, before the first request: [`Client::notifier`] tells that of changes.
-    /// [`Server::serve`](crate::Server::serve) and a mount call it, each time the first thread begins. By default it
-    /// does nothing.
+    /// Receives the client, before the first request, so that it can send notices by [`Client::notifier`].
+    /// [`Server::serve`](crate::Server::serve) and a mount call it, each time the first thread begins. By
+    /// default it does nothing.
     fn begin(&self, client: &Client) {}
 
-    /// Takes a call, to answer it later on any thread, by its [`To`](crate::To) and [`Client::send`]. What it returns
-    /// is made by its method, before this thread reads another request. By default it returns each.
-    /// [`Server::serve`](crate::Server::serve) and a mount call it for each but INIT and DESTROY.
+    /// Takes a call, so that it can be answered later on any thread, by its [`To`](crate::To) and
+    /// [`Client::send`]. If it returns the call instead, which it does by default, the server makes it by its
+    /// method before this thread reads another request. [`Server::serve`](crate::Server::serve) and a mount
+    /// call it for each request except INIT and DESTROY.
     ///
-    /// If the [`To`](crate::To) of a call that was taken is dropped, its caller waits for ever. An
-    /// [`interrupt`](Self::interrupt) finds it by `ctx.unique`. On several threads it may come before its call is
-    /// taken. At [`destroy`](Self::destroy) calls may still be taken, whose replies go nowhere.
+    /// A call that was taken must be answered: if its [`To`](crate::To) is dropped, its caller waits forever.
+    /// An [`interrupt`](Self::interrupt) has its number, `ctx.unique`, and may be called before it is taken
+    /// if there are several threads. Calls that are still unanswered at [`destroy`](Self::destroy) need no
+    /// answer, and replies to them are dropped.
     ///
     /// ```
-    /// use nizwarf::{kinds, Call, Client, Context, FileSystem, NoEntries, Offers, Slot, To};
+    /// use nizwarf::{kinds, Call, Client, Context, Features, FileSystem, NoEntries, Scratch, To};
     /// use std::sync::Mutex;
     ///
-    /// /// Locks of which one waits until the other is removed.
+    /// /// Locks, of which one waits until the other is removed.
     /// #[derive(Default)]
     /// struct Locks {
-    ///     waiting: Mutex<Vec<(To<kinds::Done>, Client)>>,
+    ///     waiting: Mutex<Vec<(To<kinds::Status>, Client)>>,
     /// }
     ///
     /// impl Locks {
     ///     /// The lock is free.
     ///     fn wake(&self) {
     ///         if let Some((to, client)) = self.waiting.lock().unwrap().pop() {
-    ///             // Nobody can be told of an error.
-    ///             let _ = client.send(to.answer(&mut Slot::new(), Ok(())).reply());
+    ///             // An error cannot be reported to anybody.
+    ///             let _ = client.send(to.answer(&mut Scratch::new(), Ok(())).reply());
     ///         }
     ///     }
     /// }
@@ -553,8 +509,8 @@ pub trait FileSystem {
     ///     type Handle = u64;
     ///     type DirIter = NoEntries;
     ///
-    ///     fn offers(&self) -> Offers {
-    ///         Offers::LOCKS
+    ///     fn features(&self) -> Features {
+    ///         Features::LOCKS
     ///     }
     ///
     ///     fn take<'r>(&self, _: Context, call: Call<'r>, client: &Client) -> Option<Call<'r>> {
@@ -573,71 +529,63 @@ pub trait FileSystem {
         Some(call)
     }
 
-    /// Returns a lock that is in the way of this one, or this one with [`LockType::Unlock`] if there is none. This and
-    /// the methods after it are for calls that are [offered](Self::offers).
-    ///
-    /// [`LockType::Unlock`]: crate::LockType::Unlock
-    fn getlk(
-        &self, ctx: Context, inode: Self::Inode, handle: Self::Handle, lock_owner: u64, lock: Lock,
-    ) -> io::Result<Lock> {
-        not_served()
+    methods! {
+        /// Returns a lock that conflicts with this one, or this one with [`LockType::Unlock`] if there is no
+        /// conflict. This and the methods after it are called only if their operation is
+        /// [enabled](Self::features).
+        ///
+        /// [`LockType::Unlock`]: crate::LockType::Unlock
+        fn getlk(
+            &self, ctx: Context, inode: Self::Inode, handle: Self::Handle, lock_owner: u64, lock: Lock,
+        ) -> io::Result<Lock>;
+
+        /// Sets or removes a lock. If it conflicts with another one, it must return EAGAIN, or with `wait`
+        /// block until there is no conflict or an [`interrupt`](Self::interrupt) ends it with EINTR. With
+        /// `flock` the lock is one of `flock(2)`, of the whole file, and does not conflict with other locks
+        /// than these.
+        ///
+        /// While it blocks, its thread serves no other request, not even the one that removes the other lock.
+        /// So a file system should [`take`](Self::take) a [`Call::Setlkw`] that must wait.
+        fn setlk(
+            &self, ctx: Context, inode: Self::Inode, handle: Self::Handle, lock_owner: u64, lock: Lock,
+            wait: bool, flock: bool,
+        ) -> io::Result<()>;
+
+        /// Returns the number of the device's block in which this block of a file is stored.
+        fn bmap(&self, ctx: Context, inode: Self::Inode, block: u64, block_size: u32) -> io::Result<u64>;
+
+        /// Carries out a command of `ioctl(2)`, whose third argument is `arg`. Linux copied `input` from
+        /// there, and copies at most `output_size` bytes back. Both lengths are those in `cmd`, unless
+        /// [`UNRESTRICTED`](IoctlFlags::UNRESTRICTED) is set. An unknown command should return ENOTTY.
+        fn ioctl(
+            &self, ctx: Context, inode: Self::Inode, handle: Self::Handle, flags: IoctlFlags, cmd: u32,
+            arg: u64, input: &[u8], output_size: u32,
+        ) -> io::Result<IoctlReply>;
+
+        /// Returns which of the events, by the bits of `poll(2)`, have occurred. If there is a `wake`, the
+        /// file system must pass it to [`Notifier::wake`](crate::Notifier::wake) when one occurs later.
+        fn poll(
+            &self, ctx: Context, inode: Self::Inode, handle: Self::Handle, wake: Option<PollHandle>,
+            events: u32,
+        ) -> io::Result<u32>;
+
+        /// Returns attributes, with the time of birth, and how long they are valid. `flags` are those of
+        /// `statx(2)`, and `mask` has the attributes that are wanted. Linux calls it if these are more than
+        /// [`Statx::BASIC`].
+        fn statx(
+            &self, ctx: Context, inode: Self::Inode, handle: Option<Self::Handle>, flags: u32, mask: u32,
+        ) -> io::Result<(Statx, Duration)>;
+
+        /// Creates and opens a file without a name in the file system of `parent`, as
+        /// [`create`](Self::create). Linux sends `/` as `name`.
+        fn tmpfile(
+            &self, ctx: Context, parent: Self::Inode, name: &CStr, mode: u32, kill_priv: bool, flags: u32,
+            umask: u32, extensions: Extensions,
+        ) -> io::Result<(Entry, Option<Self::Handle>, OpenOptions)>;
     }
 
-    /// Sets or removes a lock. If another one is in the way, it is EAGAIN, or with `wait` it waits, until an
-    /// [`interrupt`](Self::interrupt) ends it with EINTR. With `flock` the lock is one of `flock(2)`, of the whole
-    /// file, and has nothing to do with the others.
-    ///
-    /// While it waits, its thread serves no other request, not even the one that removes the other lock:
-    /// [`take`](Self::take) a [`Call::Setlkw`] if it has to wait.
-    fn setlk(
-        &self, ctx: Context, inode: Self::Inode, handle: Self::Handle, lock_owner: u64, lock: Lock,
-        wait: bool, flock: bool,
-    ) -> io::Result<()> {
-        not_served()
-    }
-
-    /// Returns the number of the block of the device that has this block of a file.
-    fn bmap(&self, ctx: Context, inode: Self::Inode, block: u64, block_size: u32) -> io::Result<u64> {
-        not_served()
-    }
-
-    /// Carries out a command of `ioctl(2)`, whose third argument is `arg`. `input` is what Linux copied from there, and
-    /// `output_size` how much it copies back at most. Both are as `cmd` says, unless
-    /// [`UNRESTRICTED`](IoctlFlags::UNRESTRICTED) is set. A command that is not known is ENOTTY.
-    fn ioctl(
-        &self, ctx: Context, inode: Self::Inode, handle: Self::Handle, flags: IoctlFlags, cmd: u32, arg: u64,
-        input: &[u8], output_size: u32,
-    ) -> io::Result<IoctlReply> {
-        not_served()
-    }
-
-    /// Returns which of the events, as `poll(2)` has them, are there. If there is a `wake`,
-    /// [`Notifier::wake`](crate::Notifier::wake) has to tell the client by it when one comes.
-    fn poll(
-        &self, ctx: Context, inode: Self::Inode, handle: Self::Handle, wake: Option<PollHandle>, events: u32,
-    ) -> io::Result<u32> {
-        not_served()
-    }
-
-    /// Returns attributes, also that of the birth, and how long they are valid. `flags` are those of `statx(2)`, and
-    /// `mask` says which attributes are wanted. Linux asks for it if that has more than [`Statx::BASIC`].
-    fn statx(
-        &self, ctx: Context, inode: Self::Inode, handle: Option<Self::Handle>, flags: u32, mask: u32,
-    ) -> io::Result<(Statx, Duration)> {
-        not_served()
-    }
-
-    /// Creates and opens a file without a name in the file system of `parent`, as [`create`](Self::create). Linux sends
-    /// `/` as `name`.
-    fn tmpfile(
-        &self, ctx: Context, parent: Self::Inode, name: &CStr, mode: u32, kill_priv: bool, flags: u32,
-        umask: u32, extensions: Extensions,
-    ) -> io::Result<(Entry, Option<Self::Handle>, OpenOptions)> {
-        not_served()
-    }
-
-    /// Is told the data that [`Notifier::retrieve`](crate::Notifier::retrieve) asked for by this number: those that the
-    /// client caches from `offset` on. By default it does nothing.
+    /// Receives the data that [`Notifier::retrieve`](crate::Notifier::retrieve) requested with this number:
+    /// those that the client caches from `offset` on. By default it does nothing.
     fn notify_reply(&self, unique: u64, inode: Self::Inode, offset: u64, data: &[u8]) {}
 }
 

@@ -23,15 +23,19 @@ macro_rules! operators {
     )*};
 }
 
-/// Declares a set of bits.
-macro_rules! flags {
-    ($(#[$about:meta])* $name:ident: $bits:ty { $($(#[$flag_about:meta])* $flag:ident = $bit:expr;)* }) => {
+/// Declares a set of bits, and the functions that all sets have. `$this` and `$receiver` are how methods take
+/// it: by value, or, as fuser's do, by reference.
+macro_rules! set {
+    (
+        $(#[$about:meta])* $name:ident: $bits:ty, $this:ident ($($receiver:tt)+)
+        { $($(#[$flag_about:meta])* $flag:ident = $value:expr;)* }
+    ) => {
         $(#[$about])*
-        #[derive(Clone, Copy, Default, PartialEq, Eq, Hash)]
+        #[derive(Clone, Copy, PartialEq, Eq, Hash)]
         pub struct $name($bits);
 
         impl $name {
-            $($(#[$flag_about])* pub const $flag: Self = Self(1 << $bit);)*
+            $($(#[$flag_about])* pub const $flag: Self = Self($value);)*
 
             /// Returns the empty set.
             #[must_use]
@@ -42,13 +46,13 @@ macro_rules! flags {
             /// Returns the set of all bits that have a name here.
             #[must_use]
             pub const fn all() -> Self {
-                Self(0 $(| 1 << $bit)*)
+                Self(0 $(| $value)*)
             }
 
             /// Returns the bits.
             #[must_use]
-            pub const fn bits(self) -> $bits {
-                self.0
+            pub const fn bits($($receiver)+) -> $bits {
+                $this.0
             }
 
             /// Returns the set of these bits, without those that have no name here.
@@ -59,15 +63,28 @@ macro_rules! flags {
 
             /// Returns whether the set is empty.
             #[must_use]
-            pub const fn is_empty(self) -> bool {
-                self.0 == 0
+            pub const fn is_empty($($receiver)+) -> bool {
+                $this.0 == 0
             }
 
             /// Returns whether the set contains all of the others.
             #[must_use]
-            pub const fn contains(self, others: Self) -> bool {
-                self.0 & others.0 == others.0
+            pub const fn contains($($receiver)+, others: Self) -> bool {
+                $this.0 & others.0 == others.0
             }
+        }
+    };
+}
+
+/// Declares sets of bits.
+macro_rules! flags {
+    ($($(#[$about:meta])* $name:ident: $bits:ty {
+        $($(#[$flag_about:meta])* $flag:ident = $bit:expr;)*
+    })*) => {$(
+        set! {
+            $(#[$about])*
+            #[derive(Default)]
+            $name: $bits, self (self) { $($(#[$flag_about])* $flag = 1 << $bit;)* }
         }
 
         operators! {
@@ -85,7 +102,7 @@ macro_rules! flags {
                 names.finish()
             }
         }
-    };
+    )*};
 }
 
 flags! {
@@ -94,8 +111,8 @@ flags! {
     /// ```
     /// use nizwarf::FsOptions;
     ///
-    /// let offered = FsOptions::from_bits_truncate(1 << 13 | 1 << 26);
-    /// assert_eq!(offered, FsOptions::DO_READDIRPLUS);
+    /// let capable = FsOptions::from_bits_truncate(1 << 13 | 1 << 26);
+    /// assert_eq!(capable, FsOptions::DO_READDIRPLUS);
     /// ```
     FsOptions: u64 {
         /// Reads of a file may be concurrent.
@@ -106,7 +123,7 @@ flags! {
         FILE_OPS = 2;
         /// OPEN truncates a file with `O_TRUNC`. Without it Linux sends a SETATTR.
         ATOMIC_O_TRUNC = 3;
-        /// `.` and `..` can be looked up, as NFS needs it.
+        /// `.` and `..` can be looked up, because NFS needs it.
         EXPORT_SUPPORT = 4;
         /// Writes can be longer than a page.
         BIG_WRITES = 5;
@@ -132,7 +149,7 @@ flags! {
         ASYNC_DIO = 15;
         /// The client caches writes.
         WRITEBACK_CACHE = 16;
-        /// OPEN may be answered ENOSYS.
+        /// The reply to OPEN may be ENOSYS.
         ZERO_MESSAGE_OPEN = 17;
         /// Calls about one directory may be concurrent.
         PARALLEL_DIROPS = 18;
@@ -146,7 +163,7 @@ flags! {
         MAX_PAGES = 22;
         /// Symbolic links are cached.
         CACHE_SYMLINKS = 23;
-        /// OPENDIR may be answered ENOSYS.
+        /// The reply to OPENDIR may be ENOSYS.
         ZERO_MESSAGE_OPENDIR = 24;
         /// Cached data are invalidated only on request.
         EXPLICIT_INVAL_DATA = 25;
@@ -166,39 +183,37 @@ flags! {
         HAS_INODE_DAX = 33;
         /// Requests that create a node have a supplementary group.
         CREATE_SUPP_GROUP = 34;
-        /// A name can be let expire: [`Notifier::expire_entry`](crate::Notifier::expire_entry).
+        /// Names can expire: [`Notifier::expire_entry`](crate::Notifier::expire_entry).
         HAS_EXPIRE_ONLY = 35;
         /// Files with direct I/O can be mapped.
         DIRECT_IO_ALLOW_MMAP = 36;
         /// Nodes cannot be exported by NFS: their handles are not valid after they are forgotten.
         NO_EXPORT_SUPPORT = 38;
-        /// Requests can be asked for again: [`Notifier::resend`](crate::Notifier::resend).
+        /// Requests can be sent again: [`Notifier::resend`](crate::Notifier::resend).
         HAS_RESEND = 39;
-        /// The mount can be ID-mapped. Linux then needs `default_permissions`, and says the user and the group
-        /// only of calls that make a node.
+        /// The mount can be ID-mapped. Linux then requires `default_permissions`, and sends the user and the
+        /// group only in requests that create a node.
         ALLOW_IDMAP = 40;
-        /// Requests that are not answered in [`Limits::request_timeout`](crate::Limits::request_timeout) end the
-        /// connection.
+        /// Requests that are not answered in [`Limits::request_timeout`](crate::Limits::request_timeout) end
+        /// the connection.
         REQUEST_TIMEOUT = 42;
     }
-}
 
-flags! {
-    /// Calls that a file system serves though virtiofsd 1.13.2 does not. Without them each of these is answered
-    /// ENOSYS, and every reply is virtiofsd's.
+    /// Optional operations that a file system serves, which virtiofsd 1.13.2 does not. The reply to an
+    /// operation that is not enabled is ENOSYS. If none is, every reply is virtiofsd's.
     ///
     /// ```
-    /// use nizwarf::Offers;
+    /// use nizwarf::Features;
     ///
-    /// assert!(Offers::default().is_empty());
-    /// assert!(Offers::all().contains(Offers::LOCKS | Offers::NOTIFY_REPLY));
+    /// assert!(Features::default().is_empty());
+    /// assert!(Features::all().contains(Features::LOCKS | Features::NOTIFY_REPLY));
     /// ```
-    Offers: u32 {
-        /// [`getlk`](crate::FileSystem::getlk) and [`setlk`](crate::FileSystem::setlk). Linux asks for them only if
-        /// [`init`](crate::FileSystem::init) wants [`POSIX_LOCKS`](FsOptions::POSIX_LOCKS), and for `flock(2)`
-        /// [`FLOCK_LOCKS`](FsOptions::FLOCK_LOCKS).
+    Features: u32 {
+        /// [`getlk`](crate::FileSystem::getlk) and [`setlk`](crate::FileSystem::setlk). Linux calls them only
+        /// if [`init`](crate::FileSystem::init) wants [`POSIX_LOCKS`](FsOptions::POSIX_LOCKS), and for
+        /// `flock(2)` [`FLOCK_LOCKS`](FsOptions::FLOCK_LOCKS).
         LOCKS = 0;
-        /// [`bmap`](crate::FileSystem::bmap). Linux asks only a mount of a block device, `fuseblk`.
+        /// [`bmap`](crate::FileSystem::bmap). Linux calls it only for mounts of a block device, `fuseblk`.
         BMAP = 1;
         /// [`ioctl`](crate::FileSystem::ioctl).
         IOCTL = 2;
@@ -213,16 +228,14 @@ flags! {
         /// [`notify_reply`](crate::FileSystem::notify_reply).
         NOTIFY_REPLY = 7;
     }
-}
 
-flags! {
     /// Flags of an IOCTL.
     IoctlFlags: u32 {
         /// The caller is a program of 32 bits.
         COMPAT = 0;
-        /// The command may read and write any memory of the caller, as a CUSE may ask for it.
+        /// The command may read and write any memory of the caller. Linux allows this for CUSE.
         UNRESTRICTED = 1;
-        /// It is asked again, after an [`IoctlReply::Retry`](crate::IoctlReply::Retry).
+        /// The request is sent again, after an [`IoctlReply::Retry`](crate::IoctlReply::Retry).
         RETRY = 2;
         /// The caller has pointers of 32 bits.
         IOCTL_32BIT = 3;
@@ -231,9 +244,7 @@ flags! {
         /// The caller is a program of x32.
         COMPAT_X32 = 5;
     }
-}
 
-flags! {
     /// Options of an open file.
     ///
     /// ```
@@ -257,9 +268,7 @@ flags! {
         /// Direct writes may be concurrent.
         PARALLEL_DIRECT_WRITES = 6;
     }
-}
 
-flags! {
     /// Which fields of a [`SetattrIn`](crate::SetattrIn) a SETATTR sets.
     ///
     /// ```
@@ -287,20 +296,16 @@ flags! {
         MTIME_NOW = 8;
         /// The time of the last change.
         CTIME = 10;
-        /// The set-user-ID and set-group-ID bits are to be cleared.
+        /// The file system must clear the set-user-ID and set-group-ID bits.
         KILL_SUIDGID = 11;
     }
-}
 
-flags! {
-    /// Further flags of a SETXATTR.
+    /// Extension flags of a SETXATTR.
     SetxattrFlags: u32 {
-        /// The set-group-ID bit is to be cleared.
+        /// The file system must clear the set-group-ID bit.
         SETXATTR_ACL_KILL_SGID = 0;
     }
-}
 
-flags! {
     /// Flags of a write, as `pwritev2(2)` has them.
     WritevFlags: i32 {
         /// High priority.
@@ -309,9 +314,9 @@ flags! {
         RWF_DSYNC = 1;
         /// As if the file had been opened with `O_SYNC`.
         RWF_SYNC = 2;
-        /// Do not wait.
+        /// Does not block.
         RWF_NOWAIT = 3;
-        /// Append to the file, whatever the offset.
+        /// Appends to the file, whatever the offset.
         RWF_APPEND = 4;
     }
 }
@@ -330,7 +335,7 @@ mod tests {
         assert_eq!(SetxattrFlags::all().bits(), 1);
         assert_eq!(IoctlFlags::all().bits(), 0x3f);
         // As in nizwarf.h.
-        assert_eq!(Offers::all().bits(), 0xff);
+        assert_eq!(Features::all().bits(), 0xff);
         // As in linux/fs.h.
         assert_eq!(WritevFlags::RWF_APPEND.bits(), 0x10);
     }

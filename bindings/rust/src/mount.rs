@@ -9,6 +9,7 @@ use crate::system;
 use std::ffi::{CStr, CString, OsStr};
 use std::fs::{canonicalize, metadata, File};
 use std::io::{self, ErrorKind};
+use std::ops::Deref;
 use std::os::unix::ffi::OsStrExt;
 use std::os::unix::fs::{MetadataExt, OpenOptionsExt};
 use std::os::unix::io::{AsRawFd, OwnedFd};
@@ -20,17 +21,17 @@ use std::sync::atomic::{AtomicBool, Ordering};
 use std::sync::Arc;
 use std::thread::{self, JoinHandle};
 
-/// An option of a mount. The names are those of the crate fuser, which mean the same there. Without any a mount
-/// is writable, is for the user who mounts, has no devices and no set-user-ID programs, and is served by one
-/// thread.
+/// An option of a mount. The names are those of the crate fuser, which mean the same there. Without any a
+/// mount is writable, is for the user who mounts, has no devices and no set-user-ID programs, and is served
+/// by one thread.
 #[non_exhaustive]
 #[derive(Clone, Debug, PartialEq, Eq)]
 pub enum MountOption {
-    /// The name of what is mounted, which `mount(8)` lists. It is `nizwarf` by default.
+    /// The name of the file system, which `mount(8)` lists. It is `nizwarf` by default.
     FSName(String),
     /// The type is `fuse.` and this.
     Subtype(String),
-    /// All users may use the mount. If it is not root who mounts, `/etc/fuse.conf` has to allow this.
+    /// All users may use the mount. If another user than root mounts, `/etc/fuse.conf` must allow this.
     AllowOther,
     /// The kernel checks permissions, by the modes and owners of [`Attr`](crate::Attr). Without it the file
     /// system does.
@@ -41,22 +42,23 @@ pub enum MountOption {
     NoExec,
     /// Reading does not change the time of the last access.
     NoAtime,
-    /// Devices can be used. Only root may say so.
+    /// Devices can be used. Only root may set this.
     Dev,
-    /// Set-user-ID programs have their effect. Only root may say so.
+    /// Set-user-ID programs have their effect. Only root may set this.
     Suid,
     /// Writes are synchronous.
     Sync,
     /// Changes of directories are synchronous.
     DirSync,
-    /// It is unmounted when this process ends, however that is: by `fusermount3`, which also root needs then.
+    /// It is unmounted when this process ends for any reason: by `fusermount3`, which root needs for this,
+    /// too.
     AutoUnmount,
-    /// How many threads serve the mount: at least one.
+    /// The number of threads that serve the mount: at least one.
     Threads(usize),
 }
 
 impl MountOption {
-    /// Its word of `mount(8)`, and its flag of `mount(2)`.
+    /// Its option of `mount(8)`, and its flag of `mount(2)`.
     fn flag(&self) -> Option<(&'static str, u64)> {
         Some(match self {
             MountOption::RO => ("ro", 1),
@@ -68,7 +70,7 @@ impl MountOption {
         })
     }
 
-    /// Its word for the kernel's FUSE.
+    /// Its option for the kernel's FUSE.
     fn word(&self) -> Option<&'static str> {
         match self {
             MountOption::AllowOther => Some("allow_other"),
@@ -83,8 +85,9 @@ impl MountOption {
 ///
 /// Root mounts by `mount(2)`. Others, and root if that is not permitted, need the program `fusermount3`.
 ///
-/// A signal that ends the process leaves a mount whose every use fails, and which has to be unmounted by hand. So a
-/// program should mount with [`MountOption::AutoUnmount`], or handle its signals and call [`Mounted::unmount`].
+/// A signal that ends the process leaves a mount on which all operations fail, and which must be unmounted by
+/// hand. So a program should mount with [`MountOption::AutoUnmount`], or handle its signals and call
+/// [`Mounted::unmount`].
 ///
 /// ```no_run
 /// use nizwarf::{mount, FileSystem, MountOption, NoEntries};
@@ -146,10 +149,10 @@ impl<F: FileSystem + Sync> Server<F> {
         let point = Arc::new(Point::new(folder.as_ref(), options)?);
         let (at, count) = (Arc::clone(&point), threads(options));
         let server = thread::Builder::new().spawn(move || self.serve_at(&at, count))?;
-        Ok(Mounted { point, server: Some(server) })
+        Ok(Mounted { mount: Ends(point), server })
     }
 
-    /// Serves a mount on that many threads. The first that fails ends it.
+    /// Serves a mount on `count` threads. The first that fails ends it.
     pub(crate) fn serve_at(&self, point: &Point, count: usize) -> io::Result<()> {
         let serve = || {
             let _ends = Ends(point);
@@ -159,7 +162,7 @@ impl<F: FileSystem + Sync> Server<F> {
             let begin = |_| thread::Builder::new().spawn_scoped(scope, serve);
             let others = (1..count).map(begin).collect::<io::Result<Vec<_>>>();
             if others.is_err() {
-                // Those that have begun end with it.
+                // The threads that have begun end with the mount.
                 let _ = point.unmount();
             }
             let (others, first) = (others?, serve());
@@ -198,32 +201,27 @@ fn threads(options: &[MountOption]) -> usize {
 #[must_use = "it is unmounted when this is dropped"]
 #[derive(Debug)]
 pub struct Mounted {
-    point: Arc<Point>,
-    server: Option<JoinHandle<io::Result<()>>>,
+    mount: Ends<Arc<Point>>,
+    server: JoinHandle<io::Result<()>>,
 }
 
 impl Mounted {
-    /// Returns the path of the folder.
-    #[must_use]
-    pub fn folder(&self) -> &Path {
-        &self.point.folder
+    getters! {
+        /// Returns the path of the folder.
+        folder: &Path = |it| &it.mount.0.folder;
+        /// Returns a notifier for the client of this mount.
+        notifier: Notifier = |it| Notifier::new(Arc::downgrade(&it.mount.0.device));
     }
 
-    /// Returns what tells the client what has changed.
-    #[must_use]
-    pub fn notifier(&self) -> Notifier {
-        Notifier::new(Arc::downgrade(&self.point.device))
-    }
-
-    /// Waits until somebody unmounts it.
+    /// Blocks until it is unmounted.
     ///
     /// # Errors
     /// As [`Server::serve`].
     ///
     /// # Panics
     /// If a call panicked.
-    pub fn join(mut self) -> io::Result<()> {
-        self.wait()
+    pub fn join(self) -> io::Result<()> {
+        self.server.join().unwrap_or_else(|panic| resume_unwind(panic))
     }
 
     /// Unmounts it, and waits for its last user.
@@ -233,52 +231,41 @@ impl Mounted {
     ///
     /// # Panics
     /// If a call panicked.
-    pub fn unmount(mut self) -> io::Result<()> {
-        self.point.unmount()?;
-        self.wait()
-    }
-
-    fn wait(&mut self) -> io::Result<()> {
-        let ended = self.server.take().map_or(Ok(Ok(())), JoinHandle::join);
-        ended.unwrap_or_else(|panic| resume_unwind(panic))
-    }
-}
-
-impl Drop for Mounted {
-    fn drop(&mut self) {
-        // Nobody can be told of an error.
-        let _ = self.point.unmount();
+    pub fn unmount(self) -> io::Result<()> {
+        self.mount.0.unmount()?;
+        self.join()
     }
 }
 
 /// Unmounts when it is dropped.
-struct Ends<'a>(&'a Point);
+#[derive(Debug)]
+pub(crate) struct Ends<P: Deref<Target = Point>>(pub P);
 
-impl Drop for Ends<'_> {
+impl<P: Deref<Target = Point>> Drop for Ends<P> {
     fn drop(&mut self) {
-        // Nobody can be told of an error.
+        // An error cannot be reported to anybody.
         let _ = self.0.unmount();
     }
 }
 
-/// Where a mount is made: so what is unmounted is what was mounted. Who may write to a folder above could rename it
-/// meanwhile, put a link in its place, or mount something else there.
+/// The place of a mount, by which only this mount is unmounted. Somebody with write access to a folder above
+/// could rename the folder in the meantime, replace it by a link, or mount another file system there.
 #[derive(Debug)]
 struct Place {
     /// The directory above, wherever that is now, and the name in it.
     above: File,
     name: CString,
-    /// The mounts that the name leads to, without this one and with it. None: it is not known.
+    /// The mounts that the name leads to, before this mount and after it. `None` if unknown.
     before: Option<u64>,
     own: Option<u64>,
 }
 
 impl Place {
-    /// The path is resolved. None: it cannot be known, as without `/proc`.
+    /// Resolves the path. Returns `None` if this fails, for example without `/proc`.
     fn new(whole: &Path) -> Option<Self> {
         const O_PATH: i32 = 0o10_000_000;
         metadata("/proc/self/fd").ok()?;
-        // (that of the root alone has no name)
+        // (only the path of the root has no name)
         let name = whole.file_name().unwrap_or_else(|| OsStr::new("."));
         let name = c_string(name.as_bytes()).ok()?;
         let folder = whole.parent().unwrap_or(whole);
@@ -291,7 +278,7 @@ impl Place {
         system::number_of_mount(&self.above, &self.name)
     }
 
-    /// A path of the directory above whatever has its name now.
+    /// A path of the directory above, even if that was renamed.
     fn directory(&self) -> String {
         format!("/proc/self/fd/{}", self.above.as_raw_fd())
     }
@@ -303,7 +290,8 @@ impl Place {
         c_string(&path)
     }
 
-    /// Whether what was mounted is what is there, as far as it is known; otherwise nothing is.
+    /// Whether this mount is the one at the place, as far as this is known. False if no file system is
+    /// mounted there. An error if another one is.
     fn is_mounted(&self) -> io::Result<bool> {
         match (self.own, self.number()) {
             (Some(own), Some(there)) if own != there => {
@@ -324,10 +312,10 @@ impl Place {
 #[derive(Debug)]
 pub(crate) struct Point {
     folder: PathBuf,
-    /// None: it is not known.
+    /// `None` if unknown.
     place: Option<Place>,
     pub device: Arc<File>,
-    /// What mounted it, if it is not root's own mount.
+    /// The program that mounted it, unless this process did as root.
     helper: Option<Helper>,
     is_mounted: AtomicBool,
 }
@@ -336,7 +324,7 @@ pub(crate) struct Point {
 #[derive(Debug)]
 struct Helper {
     name: &'static str,
-    /// If it waits for the end of this process: its process, and the socket whose end it waits for.
+    /// Its process and the socket, if it waits for the end of this process, which closes the socket.
     waits: Option<(Child, UnixStream)>,
 }
 
@@ -367,7 +355,7 @@ impl Point {
         Ok(Point { folder: whole, place, device, helper, is_mounted: AtomicBool::new(true) })
     }
 
-    /// A device that somebody else has mounted, and unmounts.
+    /// A device that another program has mounted, and unmounts.
     pub fn of_other(device: File) -> Self {
         let (folder, is_mounted) = (PathBuf::new(), AtomicBool::new(false));
         Point { folder, place: None, device: Arc::new(device), helper: None, is_mounted }
@@ -389,7 +377,7 @@ impl Point {
                 let mut command = Command::new(name);
                 command.args(["-u", "-q", "-z", "--"]);
                 match &self.place {
-                    // It looks where that directory is now.
+                    // The directory may have been renamed.
                     Some(place) => {
                         command.current_dir(place.directory()).arg(OsStr::from_bytes(place.name.as_bytes()))
                     }
@@ -403,7 +391,7 @@ impl Point {
 
 impl Drop for Point {
     fn drop(&mut self) {
-        // Nobody can be told of an error.
+        // An error cannot be reported to anybody.
         let _ = self.unmount();
         if let Some((mut helper, socket)) = self.helper.as_mut().and_then(|it| it.waits.take()) {
             drop(socket);
@@ -412,7 +400,7 @@ impl Drop for Point {
     }
 }
 
-/// What leads to a folder: by its place, if that is known.
+/// A path of a folder: by its place, if that is known.
 fn path_of(folder: &Path, place: Option<&Place>) -> io::Result<CString> {
     place.map_or_else(|| c_string(folder.as_os_str().as_bytes()), Place::path)
 }
@@ -424,7 +412,7 @@ fn mount_as_root(folder: &CStr, mode: u32, options: &[MountOption]) -> io::Resul
     let device = File::options().read(true).write(true).open("/dev/fuse");
     let device = device.map_err(|error| named("/dev/fuse", &error))?;
     let (user, group) = system::user_and_group();
-    // (the kernel takes the type of the mode alone)
+    // (the kernel accepts only the type of the mode)
     let mut data =
         format!("fd={},rootmode={:o},user_id={user},group_id={group}", device.as_raw_fd(), mode & 0o170_000);
     for word in options.iter().filter_map(MountOption::word) {
@@ -446,7 +434,7 @@ fn mount_as_root(folder: &CStr, mode: u32, options: &[MountOption]) -> io::Resul
     Ok(device)
 }
 
-/// Mounts by `fusermount3`, or by an older `fusermount`. Returns the device, which it hands over.
+/// Mounts by `fusermount3`, or by an older `fusermount`. Returns the device, which the program sends.
 fn mount_by_helper(folder: &Path, options: &[MountOption]) -> io::Result<(File, Helper)> {
     let mut missing = None;
     for name in ["fusermount3", "fusermount"] {
@@ -477,7 +465,7 @@ fn mount_by_helper(folder: &Path, options: &[MountOption]) -> io::Result<(File, 
     Err(missing.unwrap_or_else(|| ErrorKind::NotFound.into()))
 }
 
-/// The options as `fusermount3` takes them.
+/// The options for `fusermount3`.
 fn helper_words(options: &[MountOption]) -> String {
     let (source, subtype) = names(options);
     let mut words = vec![format!("fsname={}", escaped(source))];
@@ -491,7 +479,7 @@ fn helper_words(options: &[MountOption]) -> String {
     words.join(",")
 }
 
-/// A word in which a comma does not end an option.
+/// The value of an option, with commas escaped because a comma ends an option.
 fn escaped(word: &str) -> String {
     word.replace('\\', "\\\\").replace(',', "\\,")
 }
@@ -509,7 +497,7 @@ fn names(options: &[MountOption]) -> (&str, Option<&str>) {
     (source, subtype)
 }
 
-/// An error that says what it is of.
+/// An error with the name of its file or program.
 fn named(what: impl std::fmt::Display, error: &io::Error) -> io::Error {
     io::Error::new(error.kind(), format!("{what}: {error}"))
 }
@@ -519,7 +507,7 @@ fn c_string(bytes: &[u8]) -> io::Result<CString> {
     CString::new(bytes).map_err(|_| io::Error::new(ErrorKind::InvalidInput, of_bytes()))
 }
 
-/// What a program says, if it failed.
+/// Returns an error with the messages of a program if that failed.
 fn succeeded(helper: &str, output: &Output) -> io::Result<()> {
     if output.status.success() {
         return Ok(());

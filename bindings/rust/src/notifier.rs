@@ -1,9 +1,9 @@
-//! Notices: what a server tells its client without being asked.
+//! Notices: messages that a server sends without a request.
 #![forbid(unsafe_code)]
 
 use crate::errno::Errno;
 use crate::ffi::Notice;
-use crate::further::PollHandle;
+use crate::optional::PollHandle;
 use crate::system;
 use std::ffi::CStr;
 use std::fs::File;
@@ -14,14 +14,16 @@ use std::sync::Weak;
 const LONGEST: usize = 16 + 24 + LONGEST_NAME + 1;
 const LONGEST_NAME: usize = 1023;
 
-/// Tells the client what has changed without it. It can be cloned and used on any thread and at any time.
+/// Informs the client of changes that it did not make. It may be cloned and used on any thread and at any
+/// time.
 ///
 /// After the unmount each method returns ENOTCONN. A notifier does not keep a mount, or its server.
-/// [`Mounted::notifier`](crate::Mounted::notifier), and [`FileSystem::begin`](crate::FileSystem::begin) by its
-/// [`Client`](crate::Client), return one.
+/// [`Mounted::notifier`](crate::Mounted::notifier), and [`FileSystem::begin`](crate::FileSystem::begin) by
+/// its [`Client`](crate::Client), return one.
 ///
-/// Notices come in the order of the calls here, but one may overtake a reply that was made before it. Do not tell of a
-/// node or a directory in a call about it: Linux may wait for the end of that call. Tell of it on another thread.
+/// Notices are sent in the order of the calls here, but one may overtake a reply that was made before it. A
+/// notice of a node or a directory must not be sent in a call about it, because Linux may wait for the end of
+/// that call. It may be sent on another thread.
 ///
 /// ```no_run
 /// # use nizwarf::{FileSystem, NoEntries};
@@ -49,25 +51,27 @@ impl Notifier {
         Notifier { device }
     }
 
-    /// Drops what the client caches of a node: its attributes, and `len` bytes of data from `offset` on, or all of
-    /// them if `len` is 0. If `offset` is negative, only the attributes. ENOENT if it does not know the node.
+    /// Drops the cached attributes of a node, and `len` bytes of its cached data from `offset` on, or all
+    /// data from there if `len` is 0. If `offset` is negative, only the attributes are dropped. ENOENT if the
+    /// client does not know the node.
     pub fn inval_inode(&self, node: u64, offset: i64, len: i64) -> io::Result<()> {
         self.tell(Notice::InvalInode { node, offset, len }, &[])
     }
 
-    /// Drops a name that the client caches, with what is below it. ENOENT if it does not know it.
+    /// Drops a cached name, with the names below it. ENOENT if the client does not cache it.
     pub fn inval_entry(&self, parent: u64, name: &CStr) -> io::Result<()> {
         self.tell_of_name(Notice::InvalEntry { parent, flags: 0, name }, name)
     }
 
-    /// Lets a name expire: it is looked up again when it is used. Linux has this if it offers
+    /// Lets a name expire: it is looked up again when it is used. Linux supports this if it is capable of
     /// [`HAS_EXPIRE_ONLY`](crate::FsOptions::HAS_EXPIRE_ONLY).
     pub fn expire_entry(&self, parent: u64, name: &CStr) -> io::Result<()> {
         const FUSE_EXPIRE_ONLY: u32 = 1;
         self.tell_of_name(Notice::InvalEntry { parent, flags: FUSE_EXPIRE_ONLY, name }, name)
     }
 
-    /// Drops the name of a node that was removed, so that who watches it, as by `inotify(7)`, is told.
+    /// Drops the name of a node that was removed. Programs that watch it, for example by `inotify(7)`, are
+    /// notified.
     pub fn delete(&self, parent: u64, child: u64, name: &CStr) -> io::Result<()> {
         self.tell_of_name(Notice::Delete { parent, child, name }, name)
     }
@@ -78,30 +82,29 @@ impl Notifier {
         self.tell(Notice::Store { node, offset, size }, data)
     }
 
-    /// Asks for data that the client caches of a file. They come by
-    /// [`FileSystem::notify_reply`](crate::FileSystem::notify_reply) with this number, if
-    /// [`NOTIFY_REPLY`](crate::Offers::NOTIFY_REPLY) is offered.
+    /// Requests cached data of a file. [`FileSystem::notify_reply`](crate::FileSystem::notify_reply) receives
+    /// them with this number, if [`NOTIFY_REPLY`](crate::Features::NOTIFY_REPLY) is enabled.
     pub fn retrieve(&self, unique: u64, node: u64, offset: u64, size: u32) -> io::Result<()> {
         self.tell(Notice::Retrieve { unique, node, offset, size }, &[])
     }
 
-    /// Tells that an event has come for which a POLL waits: the file is polled again.
+    /// Reports that an event has occurred for which a POLL waits: the file is polled again.
     pub fn wake(&self, handle: PollHandle) -> io::Result<()> {
         self.tell(Notice::Poll { handle: handle.0 }, &[])
     }
 
-    /// Asks for all requests again that are not answered. Their numbers then have bit 63. Linux has this if it offers
-    /// [`HAS_RESEND`](crate::FsOptions::HAS_RESEND).
+    /// Requests that all requests without a reply are sent again. Their numbers then have bit 63. Linux
+    /// supports this if it is capable of [`HAS_RESEND`](crate::FsOptions::HAS_RESEND).
     pub fn resend(&self) -> io::Result<()> {
         self.tell(Notice::Resend {}, &[])
     }
 
-    /// Lets all names expire. Linux has this from 6.16 on.
+    /// Lets all names expire. Linux supports this since 6.16.
     pub fn expire_all(&self) -> io::Result<()> {
         self.tell(Notice::IncEpoch {}, &[])
     }
 
-    /// Asks for the lookups of these nodes, if nobody uses them. Linux has this from 6.19 on.
+    /// Requests that the client forgets these nodes, if they are not in use. Linux supports this since 6.19.
     pub fn prune(&self, nodes: &[u64]) -> io::Result<()> {
         let count = u32::try_from(nodes.len()).map_err(|_| Errno::EINVAL)?;
         let data: Vec<u8> = nodes.iter().flat_map(|node| node.to_le_bytes()).collect();
@@ -124,7 +127,7 @@ impl Notifier {
             return Err(Errno::EINVAL.into()); // its length has more than 32 bits
         }
         let sent = write_both(&device, &head[..len], data);
-        // The kernel takes some notices of what it has unmounted.
+        // The kernel accepts some notices even after the unmount.
         if system::is_connected(&device) {
             sent
         } else {

@@ -1,4 +1,5 @@
-//! Bits and codes of libnizwarf, as its header names them. `tools/dev/numbers.py` checks that they are the same.
+//! Bits and codes of libnizwarf, as its header names them. `tools/dev/numbers.py` checks that they are the
+//! same.
 
 /// Bits of the field `has` of a call.
 pub(crate) mod has {
@@ -6,20 +7,20 @@ pub(crate) mod has {
     pub const OWNER: u32 = 1 << 1;
     pub const CONTEXT: u32 = 1 << 2;
     pub const GROUP: u32 = 1 << 3;
-    pub const KILL_PRIV: u32 = 1 << 4;
-    pub const DELAYED: u32 = 1 << 5;
-    pub const DATASYNC: u32 = 1 << 6;
-    pub const FLUSHES: u32 = 1 << 7;
-    pub const FLOCK_RELEASE: u32 = 1 << 8;
+    pub const KILL_SUIDGID: u32 = 1 << 4;
+    pub const WRITE_CACHE: u32 = 1 << 5;
+    pub const FSYNC_FDATASYNC: u32 = 1 << 6;
+    pub const RELEASE_FLUSH: u32 = 1 << 7;
+    pub const RELEASE_FLOCK_UNLOCK: u32 = 1 << 8;
     pub const PLUS: u32 = 1 << 9;
-    pub const FLOCK: u32 = 1 << 10;
+    pub const LK_FLOCK: u32 = 1 << 10;
 }
 
 /// Kinds of answers: none, and those that are only errors.
 pub(crate) mod kind {
-    pub const QUIET: u32 = 0;
-    pub const FAULT_OR_SILENCE: u32 = 2;
-    pub const FAULT: u32 = 15;
+    pub const NONE: u32 = 0;
+    pub const ERROR_OR_NONE: u32 = 2;
+    pub const ERROR: u32 = 15;
 }
 
 /// Codes that the functions return.
@@ -34,6 +35,6 @@ pub(crate) mod code {
     pub const MISSING_EXTENSION: i32 = 9;
     pub const OUT_OF_MEMORY: i32 = 10;
     pub const TOO_LONG: i32 = 13;
-    pub const ASKED: i32 = 15;
-    pub const NOT_ASKED: i32 = 16;
+    pub const CALL: i32 = 15;
+    pub const BAD_CALL: i32 = 16;
 }

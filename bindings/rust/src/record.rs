@@ -1,4 +1,4 @@
-//! Structs that the library shares, laid out as C does it.
+//! Structs that are shared with the library, with C's layout; and methods that return parts of a struct.
 #![forbid(unsafe_code)]
 
 use std::marker::PhantomData;
@@ -29,9 +29,10 @@ impl<T> Zero for PhantomData<T> {
     const ZERO: Self = PhantomData;
 }
 
-/// Declares structs as C lays them out, and `NONE` of each, whose fields are 0. Each field has its offset in the header
-/// before it, and each struct its size after its name. Wrong numbers do not compile: the fields before a field must have
-/// that many bytes, and all fields together the size of the struct, so that there is no padding.
+/// Declares structs with C's layout, and `NONE` of each, whose fields are 0. Before each field is its offset
+/// in the header, and after the name of each struct its size. Wrong numbers do not compile: the sum of the
+/// fields before a field must be its offset, and the sum of all fields the size of the struct, so that there
+/// is no padding.
 macro_rules! records {
     ($(
         $(#[$about:meta])*
@@ -67,5 +68,17 @@ macro_rules! records {
         }
 
         const _: () = $name::LAID_OUT;
+    )*};
+}
+
+/// Declares methods that return a part of their struct.
+macro_rules! getters {
+    ($($(#[$about:meta])* $name:ident: $type:ty = |$it:ident| $value:expr;)*) => {$(
+        $(#[$about])*
+        #[must_use]
+        pub fn $name(&self) -> $type {
+            let $it = self;
+            $value
+        }
     )*};
 }

@@ -1,14 +1,15 @@
 //! A server over a file system.
 #![forbid(unsafe_code)]
 
-use crate::answer::{To, Told, Want};
+use crate::answer::{Encoded, To};
 use crate::call::{Call, PendingCall};
 use crate::client::Client;
-use crate::door::{withhold, Asked, Refusal, Session};
+use crate::codec::{withhold, Decoded, Refusal, Session};
 use crate::errno::numbered;
-use crate::ffi::Slot;
+use crate::ffi::Scratch;
 use crate::file_system::{Context, FileSystem};
 use crate::flags::FsOptions;
+use crate::kinds;
 use crate::numbers::code;
 use std::fs::File;
 use std::io::{self, IoSlice, IoSliceMut};
@@ -19,7 +20,7 @@ use std::sync::{Arc, Mutex, MutexGuard, PoisonError};
 /// The length of the header of a reply.
 pub(crate) const HEADER: usize = 16;
 
-/// Options that are agreed on only if they are wanted, by default.
+/// Options that are by default agreed on only if they are wanted.
 const WANTED: FsOptions =
     FsOptions::from_bits_truncate(FsOptions::ATOMIC_O_TRUNC.bits() | FsOptions::ALLOW_IDMAP.bits());
 
@@ -27,8 +28,8 @@ const WANTED: FsOptions =
 #[must_use = "the client waits for the reply"]
 #[derive(Clone, Copy, Debug, PartialEq, Eq)]
 pub struct Served {
-    /// The length of the reply, which is at the start of the buffers. The request is completed with that many
-    /// bytes. It is 0 if there is no reply.
+    /// The length of the reply, which is at the start of the buffers. The request must be completed with this
+    /// length. It is 0 if there is no reply.
     pub len: usize,
     /// Why there is no reply, if there should be one.
     pub outcome: Result<(), Refusal>,
@@ -37,13 +38,14 @@ pub struct Served {
 }
 
 /// Serves one client from a file system. Each request becomes a call of the file system. If the client does
-/// not get an entry, its lookup is given back by [`FileSystem::forget`]. If it does not get a handle, that is
-/// released before, by [`FileSystem::release`] or [`FileSystem::releasedir`].
+/// not receive an entry, because its reply does not fit, the lookup is dropped by [`FileSystem::forget`]. If
+/// it does not receive a handle, that is released before, by [`FileSystem::release`] or
+/// [`FileSystem::releasedir`].
 ///
-/// Any number of threads can share a server, each with its own [`Slot`], if the file system is [`Sync`].
+/// Any number of threads may share a server, each with its own [`Scratch`], if the file system is [`Sync`].
 ///
 /// ```
-/// use nizwarf::{FileSystem, NoEntries, Server, Slot};
+/// use nizwarf::{FileSystem, NoEntries, Scratch, Server};
 /// use std::io::{IoSlice, IoSliceMut};
 ///
 /// /// Has the default of each method.
@@ -61,7 +63,7 @@ pub struct Served {
 /// let mut buffer = [0; 200];
 /// let server = Server::new(Nothing);
 /// let served = server.serve_one(
-///     &mut Slot::new(),
+///     &mut Scratch::new(),
 ///     &[IoSlice::new(&request)],
 ///     &mut [IoSliceMut::new(&mut buffer)],
 /// );
@@ -87,11 +89,11 @@ pub struct Server<F> {
 #[derive(Debug, Default)]
 pub(crate) struct Serves {
     pub threads: usize,
-    /// That of the first of them, which clients refer to, until the last ends.
+    /// The device of the first of them, to which clients refer, until the last ends.
     pub device: Option<Arc<File>>,
 }
 
-/// Locks what is valid after a panic, too.
+/// Locks a value that is valid even after a panic of another thread.
 pub(crate) fn guard<T>(lock: &Mutex<T>) -> MutexGuard<'_, T> {
     lock.lock().unwrap_or_else(PoisonError::into_inner)
 }
@@ -118,49 +120,44 @@ impl<F: FileSystem> Server<F> {
         }
     }
 
-    /// Sets whether panics of the file system are caught, and answered EIO. If not, which is the default, a
-    /// panic unwinds out of [`serve_one`](Self::serve_one), and the request gets no reply. A file system
-    /// whose panics are caught must be usable after them.
+    /// Sets whether panics of the file system are caught. The reply to the request is then EIO. If not, which
+    /// is the default, a panic unwinds out of [`serve_one`](Self::serve_one), and the request gets no reply.
+    /// A file system whose panics are caught must be usable after them.
     #[must_use]
     pub fn catch_panics(self, catches: bool) -> Self {
         Server { catches, ..self }
     }
 
-    /// Sets options that the client is taken not to offer, as [`withhold`](crate::withhold) has it. By default
-    /// there are none, but `ATOMIC_O_TRUNC` and `ALLOW_IDMAP` are also withheld if [`FileSystem::init`]
-    /// does not want them.
+    /// Sets options that are removed from an INIT, as by [`withhold`](crate::withhold()). By default the set
+    /// is empty. `ATOMIC_O_TRUNC` and `ALLOW_IDMAP` are always removed if [`FileSystem::init`] does not want
+    /// them.
     #[must_use]
     pub fn withhold(self, options: FsOptions) -> Self {
         Server { withheld: options, ..self }
     }
 
-    /// Agrees to no options but these and those that [`FileSystem::init`] wants.
-    pub(crate) fn agree_unasked(self, options: FsOptions) -> Self {
+    /// Agrees only to these options and to those that [`FileSystem::init`] wants.
+    pub(crate) fn always_agree(self, options: FsOptions) -> Self {
         Server { wanted: FsOptions::all() - options, ..self }
     }
 
-    /// Returns the file system.
-    #[must_use]
-    pub fn file_system(&self) -> &F {
-        &self.file_system
+    getters! {
+        /// Returns the file system.
+        file_system: &F = |it| &it.file_system;
+        /// Returns the options that were agreed on.
+        options: FsOptions = |it| FsOptions::from_bits_truncate(it.options.load(Ordering::Acquire));
     }
 
-    /// Returns the options that were agreed on.
-    #[must_use]
-    pub fn options(&self) -> FsOptions {
-        FsOptions::from_bits_truncate(self.options.load(Ordering::Acquire))
-    }
-
-    /// Returns the session, with its present options, and with what the file system offers.
+    /// Returns the session, with its present options, and with the features of the file system.
     #[must_use]
     pub fn session(&self) -> Session {
         let mut session = self.session;
         session.set_options(self.options());
-        session.set_offers(self.file_system.offers());
+        session.set_features(self.file_system.features());
         session
     }
 
-    /// Ends the session as a DESTROY does, for instance because the device was reset.
+    /// Ends the session as a DESTROY does, for example because the device was reset.
     pub fn destroy(&self) {
         self.begun.store(false, Ordering::Release);
         self.quietly(F::destroy);
@@ -172,47 +169,55 @@ impl<F: FileSystem> Server<F> {
     }
 
     /// Serves one request, whose bytes are the concatenation of the slices. The reply is put at the start of
-    /// the buffers in `room`. A READ may also change them after its reply.
+    /// `buffers`. A READ may also change bytes after its reply.
     ///
-    /// No call can be taken, to be answered later: [`FileSystem::take`] is not called. [`Slot::ask`] is for that.
-    pub fn serve_one(&self, slot: &mut Slot, request: &[IoSlice<'_>], room: &mut [IoSliceMut<'_>]) -> Served {
-        self.serve_by(slot, request, room, None)
+    /// No call can be answered later, because [`FileSystem::take`] is not called. Use [`Scratch::decode`] for
+    /// that.
+    pub fn serve_one(
+        &self, scratch: &mut Scratch, request: &[IoSlice<'_>], buffers: &mut [IoSliceMut<'_>],
+    ) -> Served {
+        self.serve_by(scratch, request, buffers, None)
     }
 
-    /// Serves one request of a client, if there is one to whom a call can be answered later.
+    /// Serves one request. If a client is given, calls can be taken, to be answered later.
     #[inline]
     pub(crate) fn serve_by(
-        &self, slot: &mut Slot, request: &[IoSlice<'_>], room: &mut [IoSliceMut<'_>], client: Option<&Client>,
+        &self, scratch: &mut Scratch, request: &[IoSlice<'_>], buffers: &mut [IoSliceMut<'_>],
+        client: Option<&Client>,
     ) -> Served {
-        let total = room.iter().map(|piece| piece.len()).sum();
-        match slot.ask(&self.session(), request, total) {
-            Asked::Finished(mut done) => {
+        let total = buffers.iter().map(|piece| piece.len()).sum();
+        match scratch.decode(&self.session(), request, total) {
+            Decoded::Finished(mut done) => {
                 if let Some(unique) = done.interrupts {
                     self.quietly(|files| files.interrupt(unique));
                 }
-                Served { len: done.reply.copy_to(room), outcome: done.outcome, interrupts: done.interrupts }
+                Served {
+                    len: done.reply.copy_to(buffers),
+                    outcome: done.outcome,
+                    interrupts: done.interrupts,
+                }
             }
-            Asked::Call(pending) => {
+            Decoded::Call(pending) => {
                 let context = pending.context;
-                let told = match pending.call {
-                    Call::Init { capable, to, .. } => self.begin(slot, request, capable, to),
-                    Call::Destroy { .. } => self.make(slot, pending, room),
+                let encoded = match pending.call {
+                    Call::Init { capable, to, .. } => self.begin(scratch, request, capable, to),
+                    Call::Destroy { .. } => self.make(scratch, pending, buffers),
                     call => match self.left(context, call, client) {
-                        Ok(call) => self.make(slot, PendingCall { context, call }, room),
+                        Ok(call) => self.make(scratch, PendingCall { context, call }, buffers),
                         Err(outcome) => return Served { len: 0, outcome, interrupts: None },
                     },
                 };
-                if let Some(options) = told.options {
+                if let Some(options) = encoded.options {
                     self.set_options(options);
                 }
-                let outcome = told.outcome;
-                let mut reply = told.give_back(|node| self.give_back(context, node));
-                Served { len: reply.copy_to(room), outcome, interrupts: None }
+                let outcome = encoded.outcome;
+                let mut reply = encoded.forget_lost(|node| self.forget_lost(context, node));
+                Served { len: reply.copy_to(buffers), outcome, interrupts: None }
             }
         }
     }
 
-    /// Returns a call unless the file system takes it. If it panics, the request is refused.
+    /// Returns a call unless the file system takes it. If that panics, the request is refused.
     #[inline]
     fn left<'r>(
         &self, context: Context, call: Call<'r>, client: Option<&Client>,
@@ -221,49 +226,49 @@ impl<F: FileSystem> Server<F> {
             Some(client) => client,
             None => return Ok(call),
         };
-        match self.ask(|files| Ok(files.take(context, call, client))) {
+        match self.call(|files| Ok(files.take(context, call, client))) {
             Ok(call) => call.ok_or(Ok(())),
-            Err(_) => Err(Err(Refusal::Other(code::NOT_ASKED))),
+            Err(_) => Err(Err(Refusal::Other(code::BAD_CALL))),
         }
     }
 
-    /// Makes an INIT: tells the file system what is offered, and agrees to some options only if it wants
-    /// them.
+    /// Makes an INIT. Some options are removed from the request if the file system does not want them.
     fn begin<'s>(
-        &self, slot: &'s mut Slot, request: &[IoSlice<'_>], capable: FsOptions, to: To<Want>,
-    ) -> Told<'s> {
+        &self, scratch: &'s mut Scratch, request: &[IoSlice<'_>], capable: FsOptions, to: To<kinds::Init>,
+    ) -> Encoded<'s> {
         let mut request: Vec<u8> = request.iter().flat_map(|piece| piece.to_vec()).collect();
-        let (capable, to) = self.offer(slot, &mut request, self.withheld, (capable, to));
-        let want = self.ask(|files| files.init(capable));
+        let (capable, to) = self.without(scratch, &mut request, self.withheld, (capable, to));
+        let want = self.call(|files| files.init(capable));
         let (_, to) = match want {
-            Ok(want) => self.offer(slot, &mut request, self.wanted - want, (capable, to)),
+            Ok(want) => self.without(scratch, &mut request, self.wanted - want, (capable, to)),
             Err(_) => (capable, to),
         };
         self.begun.fetch_or(want.is_ok(), Ordering::AcqRel);
-        let limits = self.ask(|files| Ok(files.limits()));
-        to.answer_with(slot, want, limits.unwrap_or_default())
+        let limits = self.call(|files| Ok(files.limits()));
+        to.answer_with(scratch, want, limits.unwrap_or_default())
     }
 
-    /// Asks for the call of an INIT again, without options. If there are none it is the present one.
-    fn offer(
-        &self, slot: &mut Slot, request: &mut [u8], withheld: FsOptions, present: (FsOptions, To<Want>),
-    ) -> (FsOptions, To<Want>) {
+    /// Decodes an INIT again, without some options. Returns the present call if it has none of them.
+    fn without(
+        &self, scratch: &mut Scratch, request: &mut [u8], withheld: FsOptions,
+        present: (FsOptions, To<kinds::Init>),
+    ) -> (FsOptions, To<kinds::Init>) {
         if (withheld & present.0).is_empty() {
             return present;
         }
         withhold(request, withheld);
-        match slot.ask(&self.session(), &[IoSlice::new(request)], present.1.room()) {
-            Asked::Call(PendingCall { call: Call::Init { capable, to, .. }, .. }) => (capable, to),
+        match scratch.decode(&self.session(), &[IoSlice::new(request)], present.1.reply_size()) {
+            Decoded::Call(PendingCall { call: Call::Init { capable, to, .. }, .. }) => (capable, to),
             _ => present, // what has fewer flags is an INIT, too
         }
     }
 
-    pub(crate) fn give_back(&self, context: Context, node: u64) {
+    pub(crate) fn forget_lost(&self, context: Context, node: u64) {
         self.quietly(|files| files.forget(context, node.into(), 1));
     }
 
-    /// Makes a call that has an answer.
-    pub(crate) fn ask<T>(&self, call: impl FnOnce(&F) -> io::Result<T>) -> io::Result<T> {
+    /// Makes a call that has an answer, and returns its result.
+    pub(crate) fn call<T>(&self, call: impl FnOnce(&F) -> io::Result<T>) -> io::Result<T> {
         let call = || call(&self.file_system);
         let result = if self.catches {
             // The file system must be usable after a panic: `catch_panics` says so.
@@ -277,7 +282,7 @@ impl<F: FileSystem> Server<F> {
     /// Makes a call that has no answer.
     pub(crate) fn quietly(&self, call: impl FnOnce(&F)) {
         // Such a call has no reply, not even for an error.
-        let _ = self.ask(|files| {
+        let _ = self.call(|files| {
             call(files);
             Ok(())
         });

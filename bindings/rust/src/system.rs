@@ -76,7 +76,7 @@ pub(crate) fn mount_on(source: &CStr, folder: &CStr, kind: &CStr, flags: u64, da
     done(failed)
 }
 
-/// Unmounts a folder, which is detached at once, and goes with its last user. A symbolic link is not followed.
+/// Detaches the mount on a folder, which ends with its last user. A symbolic link is not followed.
 pub(crate) fn unmount(folder: &CStr) -> io::Result<()> {
     const MNT_DETACH: c_int = 2;
     const UMOUNT_NOFOLLOW: c_int = 8;
@@ -84,8 +84,9 @@ pub(crate) fn unmount(folder: &CStr) -> io::Result<()> {
     done(unsafe { umount2(folder.as_ptr(), MNT_DETACH | UMOUNT_NOFOLLOW) })
 }
 
-/// The number of the mount that a name in a directory leads to; none before Linux 5.8. Nobody is asked for it, not even
-/// the file system that is mounted there, which may be this process, and would wait for itself.
+/// The number of the mount that a name in a directory leads to, or `None` before Linux 5.8. No request is
+/// sent to the file system that is mounted there, because this process may serve it, and would wait for
+/// itself.
 pub(crate) fn number_of_mount(directory: &File, name: &CStr) -> Option<u64> {
     const AT_SYMLINK_NOFOLLOW: c_int = 0x100;
     const AT_NO_AUTOMOUNT: c_int = 0x800;
@@ -99,7 +100,7 @@ pub(crate) fn number_of_mount(directory: &File, name: &CStr) -> Option<u64> {
     (failed == 0 && seen.mask & STATX_MNT_ID != 0).then_some(seen.mount)
 }
 
-/// Whether the mount that a device of `/dev/fuse` serves is still there.
+/// Whether the mount of a device of `/dev/fuse` still exists.
 pub(crate) fn is_connected(device: &File) -> bool {
     const POLLERR: c_short = 8;
     let mut polled = Polled { descriptor: device.as_raw_fd(), events: 0, came: 0 };
@@ -108,13 +109,13 @@ pub(crate) fn is_connected(device: &File) -> bool {
     polled.came & POLLERR == 0
 }
 
-/// Receives a descriptor, if one comes.
+/// Receives a descriptor, or `None` if the message has none or the socket is at its end.
 pub(crate) fn receive(socket: &UnixStream) -> io::Result<Option<File>> {
     const SOL_SOCKET: c_int = 1;
     const SCM_RIGHTS: c_int = 1;
     const MSG_CMSG_CLOEXEC: c_int = 0x4000_0000;
-    // The length of a header and one descriptor. The struct is longer by its padding, into which the kernel would put a
-    // second one that nobody owns.
+    // The length of a header and one descriptor. The struct is longer by its padding, into which the kernel
+    // would put a second descriptor, which would stay open.
     let one = size_of::<Control>() - size_of::<c_int>();
     let (mut byte, mut control) = ([0], Control::default());
     let mut pieces = [IoSliceMut::new(&mut byte)];
@@ -130,7 +131,7 @@ pub(crate) fn receive(socket: &UnixStream) -> io::Result<Option<File>> {
     // SAFETY: all pointers are valid for this call, and have these lengths.
     while unsafe { recvmsg(socket.as_raw_fd(), &mut message, MSG_CMSG_CLOEXEC) } < 0 {
         let error = io::Error::last_os_error();
-        // A signal of the program's is no failure of the mount.
+        // A signal that the program handles is no failure of the mount.
         if error.kind() != io::ErrorKind::Interrupted {
             return Err(error);
         }

@@ -1,7 +1,7 @@
 //! Messages as lines of text, and a check of requests.
 #![forbid(unsafe_code)]
 
-use crate::door::{Refusal, Session};
+use crate::codec::{Refusal, Session};
 use crate::ffi;
 use crate::flags::FsOptions;
 use crate::numbers::code;
@@ -9,8 +9,8 @@ use crate::numbers::code;
 /// Returns a request as a line of text without a newline: its opcode and its fields by name. `options` are
 /// those that were agreed on ([`Session::options`]).
 ///
-/// The line has only printable ASCII: in a name, `\x` and two hex digits stand for any other byte, a quote and a
-/// backslash. A request that is refused ends in `refused=` and why.
+/// The line has only printable ASCII: in a name, any other byte, a quote and a backslash are printed as `\x`
+/// and two hex digits. The line of a request that is refused ends with `refused=` and the reason.
 ///
 /// ```
 /// use nizwarf::{print_request, FsOptions};
@@ -49,18 +49,18 @@ fn text_of(line: &[u8]) -> String {
 #[non_exhaustive]
 #[derive(Clone, Copy, Debug, PartialEq, Eq)]
 pub enum Checked {
-    /// The request is whole, and asks a file system for the call of this opcode. RENAME2 counts as RENAME, and
-    /// READDIRPLUS as READDIR.
+    /// The request is valid, and needs the call of this opcode. RENAME2 counts as RENAME, and READDIRPLUS as
+    /// READDIR.
     Call(u32),
-    /// It needs no file system: [`Slot::ask`](crate::Slot::ask) finishes it.
+    /// It needs no call: [`Scratch::decode`](crate::Scratch::decode) makes its reply.
     Finished,
     /// It is an INTERRUPT of the request with this number.
     Interrupts(u64),
 }
 
 impl Session {
-    /// Checks a request, as one would in front of a server that trusts its client. `room` is the size of the
-    /// buffer for its reply. Whether the request is as long as its header says is not judged.
+    /// Checks a request, for a program in front of a server that trusts its client. `reply_size` is the size
+    /// of the reply buffer. It does not check that the request has the length in its header.
     ///
     /// ```
     /// use nizwarf::{Checked, Refusal, Session};
@@ -74,12 +74,12 @@ impl Session {
     /// ```
     ///
     /// # Errors
-    /// The [`Refusal`] of the request. [`Refusal::OutOfMemory`] comes only from a `BATCH_FORGET` or a security
-    /// context: nothing else is allocated.
-    pub fn check(&self, request: &[u8], room: usize) -> Result<Checked, Refusal> {
-        let (code, call, interrupts) = ffi::check(&self.raw, self.offers.bits(), request, room);
-        if code == code::ASKED {
-            return Ok(Checked::Call(call.call));
+    /// The [`Refusal`] of the request. [`Refusal::OutOfMemory`] is possible only for a `BATCH_FORGET` or a
+    /// security context, because nothing else is allocated.
+    pub fn check(&self, request: &[u8], reply_size: usize) -> Result<Checked, Refusal> {
+        let (code, call, interrupts) = ffi::check(&self.raw, self.features.bits(), request, reply_size);
+        if code == code::CALL {
+            return Ok(Checked::Call(call.opcode));
         }
         Refusal::of(code)?;
         Ok(match interrupts {
@@ -103,9 +103,9 @@ mod tests {
     }
 
     #[test]
-    fn each_kind_of_request_is_told() {
+    fn each_kind_of_request_is_reported() {
         let session = Session::default();
-        for (bytes, room, expected) in [
+        for (bytes, reply_size, expected) in [
             (request(1, b"a\0"), 4096, Ok(Checked::Call(1))),
             (request(1, b"a"), 4096, Err(Refusal::InvalidCString)),
             (request(36, &[9, 0, 0, 0, 0, 0, 0, 0]), 0, Ok(Checked::Interrupts(9))),
@@ -114,7 +114,7 @@ mod tests {
             (request(99, &[]), 15, Err(Refusal::EncodeMessage)),
             (request(2, &[1, 0, 0, 0, 0, 0, 0, 0]), 0, Ok(Checked::Call(2))),
         ] {
-            assert_eq!(session.check(&bytes, room), expected);
+            assert_eq!(session.check(&bytes, reply_size), expected);
         }
     }
 

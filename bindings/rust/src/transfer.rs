@@ -21,7 +21,7 @@ impl<'r> Reader<'r> {
         Reader { piece: &[], pieces: bytes.pieces() }
     }
 
-    /// Returns the unread rest of the present piece. It is empty only at the end.
+    /// Returns the unread bytes of the present piece. They are empty only at the end.
     fn piece(&mut self) -> &'r [u8] {
         if self.piece.is_empty() {
             self.piece = self.pieces.next().unwrap_or_default();
@@ -33,7 +33,7 @@ impl<'r> Reader<'r> {
 impl Read for Reader<'_> {
     fn read(&mut self, to: &mut [u8]) -> io::Result<usize> {
         let piece = self.piece();
-        // Less than asked for where a piece ends: `Read` lets it, and `read_exact` goes on.
+        // Fewer than wanted where a piece ends: `Read` allows this, and `read_exact` reads on.
         let len = piece.len().min(to.len());
         to[..len].copy_from_slice(&piece[..len]);
         self.piece = &piece[len..];
@@ -51,7 +51,7 @@ impl ZeroCopyReader for Reader<'_> {
             let moved = match flags {
                 // pwrite(2): the file's own offset, which other threads may use, stays.
                 None => f.write_at(moving, at)?,
-                // (at the end of the data there is nothing to write)
+                // (at the end of the data)
                 Some(_) if moving.is_empty() => 0,
                 Some(flags) => write_at(f, moving, at, flags.bits())?,
             };
@@ -61,10 +61,10 @@ impl ZeroCopyReader for Reader<'_> {
     }
 }
 
-/// The buffer for the data of a READ: `most` bytes, after the first `skip` bytes.
+/// The buffer for the data of a READ: `max` bytes, after the first `skip` bytes.
 #[derive(Debug)]
 pub(crate) struct Writer<'a, 'b> {
-    room: &'a mut [IoSliceMut<'b>],
+    buffers: &'a mut [IoSliceMut<'b>],
     skip: usize,
     left: usize,
     /// How many bytes were put.
@@ -72,14 +72,14 @@ pub(crate) struct Writer<'a, 'b> {
 }
 
 impl<'a, 'b> Writer<'a, 'b> {
-    pub(crate) fn new(room: &'a mut [IoSliceMut<'b>], skip: usize, most: usize) -> Self {
-        Writer { room, skip, left: most, put: 0 }
+    pub(crate) fn new(buffers: &'a mut [IoSliceMut<'b>], skip: usize, max: usize) -> Self {
+        Writer { buffers, skip, left: max, put: 0 }
     }
 
-    /// Returns the unfilled rest of the present slice. It is empty only at the end.
+    /// Returns the unfilled bytes of the present slice. They are empty only at the end.
     fn piece(&mut self) -> &mut [u8] {
         let full = self
-            .room
+            .buffers
             .iter()
             .take_while(|slice| {
                 let is_full = self.skip >= slice.len();
@@ -87,9 +87,9 @@ impl<'a, 'b> Writer<'a, 'b> {
                 is_full
             })
             .count();
-        // Full slices are dropped, so that they are looked at once and not at each call.
-        self.room = std::mem::take(&mut self.room).split_at_mut(full).1;
-        match self.room.first_mut() {
+        // Full slices are dropped, so that later calls need not skip them.
+        self.buffers = std::mem::take(&mut self.buffers).split_at_mut(full).1;
+        match self.buffers.first_mut() {
             Some(slice) => {
                 let end = slice.len().min(self.skip.saturating_add(self.left));
                 &mut slice[self.skip..end]
@@ -98,7 +98,8 @@ impl<'a, 'b> Writer<'a, 'b> {
         }
     }
 
-    /// Passes over what was put. `moved` is at most the length of `piece`, so none of the three overflows.
+    /// Advances past bytes that were put. `moved` is at most the length of `piece`, so the numbers do not
+    /// overflow.
     fn advance(&mut self, moved: usize) {
         self.skip += moved;
         self.left -= moved;
@@ -124,7 +125,7 @@ impl ZeroCopyWriter for Writer<'_, '_> {
     fn read_from_file_at(&mut self, f: &File, count: usize, off: u64) -> io::Result<usize> {
         transfer(count, off, |left, at| {
             let piece = self.piece();
-            // A `count` below the room's length: a file must not be read past what was asked for.
+            // `left` limits it, because a file must not be read beyond `count` even if the buffer is longer.
             let len = piece.len().min(left);
             let moved = f.read_at(&mut piece[..len], at)?;
             self.advance(moved);
@@ -144,7 +145,7 @@ fn transfer(
             Ok(0) => break,
             Ok(moved) => done += moved,
             Err(error) if error.kind() == io::ErrorKind::Interrupted => {}
-            // What was moved is told, and the error comes again where the caller goes on.
+            // The bytes that were moved are reported, and the error occurs again when the caller continues.
             Err(_) if done > 0 => break,
             Err(error) => return Err(error),
         }
@@ -180,24 +181,24 @@ mod tests {
     }
 
     #[test]
-    fn room_is_filled_over_slices() {
+    fn buffers_are_filled_over_slices() {
         for (first, second) in cuts() {
-            for (skip, most, expected) in [
+            for (skip, max, expected) in [
                 (0, 20, &b"abcdefghij"[..]),
                 (3, 20, b"...abcdefg"),
                 (3, 4, b"...abcd..."),
                 (10, 4, b".........."),
                 (0, 0, b".........."),
             ] {
-                let mut room = *b"..........";
-                let (one, rest) = room.split_at_mut(first);
+                let mut buffer = *b"..........";
+                let (one, rest) = buffer.split_at_mut(first);
                 let (two, three) = rest.split_at_mut(second - first);
                 let mut slices = [one, two, three].map(IoSliceMut::new);
-                let mut writer = Writer::new(&mut slices, skip, most);
+                let mut writer = Writer::new(&mut slices, skip, max);
                 let put = io::copy(&mut &b"abcdefghij"[..], &mut Lenient(&mut writer)).unwrap();
                 assert_eq!(put, 10);
-                assert_eq!(writer.put, most.min(10 - skip));
-                assert_eq!(room, expected);
+                assert_eq!(writer.put, max.min(10 - skip));
+                assert_eq!(buffer, expected);
             }
         }
     }
@@ -232,9 +233,9 @@ mod tests {
         // Appended, whatever the offset.
         assert_eq!(write(3, 0, Some(WritevFlags::RWF_APPEND)).unwrap(), 3);
         assert_eq!(write(9, 0, Some(WritevFlags::RWF_DSYNC)).unwrap(), 4);
-        let mut room = [0; 20];
-        assert_eq!(file.read_at(&mut room, 0).unwrap(), 9);
-        assert_eq!(&room[..9], b"datatadat");
+        let mut buffer = [0; 20];
+        assert_eq!(file.read_at(&mut buffer, 0).unwrap(), 9);
+        assert_eq!(&buffer[..9], b"datatadat");
         for off in [1 << 63, u64::MAX] {
             for flags in [None, Some(WritevFlags::RWF_SYNC)] {
                 let fault = write(1, off, flags).unwrap_err();
@@ -263,12 +264,12 @@ mod tests {
         assert_eq!(transfer(3, u64::MAX - 1, step).unwrap(), 3);
         assert_eq!(places, [u64::MAX - 1, u64::MAX, u64::MAX]);
         let file = File::open("Cargo.toml").unwrap();
-        let mut room = [0; 4];
-        let mut slices = [IoSliceMut::new(&mut room)];
+        let mut buffer = [0; 4];
+        let mut slices = [IoSliceMut::new(&mut buffer)];
         let mut writer = Writer::new(&mut slices, 0, 4);
         let fault = writer.read_from_file_at(&file, 4, 1 << 63).unwrap_err();
         assert_eq!(fault.raw_os_error(), Some(22));
         assert_eq!(writer.read_from_file_at(&file, 9, 1).unwrap(), 4);
-        assert_eq!(&room, b"pack");
+        assert_eq!(&buffer, b"pack");
     }
 }

@@ -3,59 +3,61 @@
 mod common;
 
 use common::diary::lock;
-use common::{fault, getattr, init, padded, reading, record, reply, session, words, Request};
+use common::{call_of, fault, getattr, init, padded, reading, record, reply, words, Request};
 use nizwarf::{
-    Asked, Attr, Call, Entry, FsOptions, GetxattrReply, IoctlRange, IoctlReply, Item, Limits, ListxattrReply,
-    OpenOptions, Refusal, Slot, Statvfs, Told, DT_DIR, DT_REG,
+    Attr, Call, DirItem, Encoded, Entry, FsOptions, GetxattrReply, IoctlRange, IoctlReply, Limits,
+    ListxattrReply, OpenOptions, Refusal, Scratch, Statvfs, DT_DIR, DT_REG,
 };
 use std::ffi::CString;
 use std::io::{self, IoSlice, IoSliceMut};
 use std::time::Duration;
 
-/// The result of an answer, and what was given back.
+/// An encoded answer, and the lookups that were forgotten.
 #[derive(Debug, PartialEq)]
 struct Ended {
     outcome: Result<(), Refusal>,
-    given_back: Vec<u64>,
-    taken: usize,
+    forgotten: Vec<u64>,
+    entries: usize,
     options: Option<FsOptions>,
     len: usize,
     bytes: Vec<u8>,
 }
 
-/// Asks for the call of a request, with a buffer of this size, and answers it.
+/// Decodes a request, with a reply buffer of this size, and answers its call.
 fn answer(
-    request: &[u8], room: usize, answer: impl for<'s> FnOnce(&'s mut Slot, Call<'_>) -> Told<'s>,
+    request: &[u8], reply_size: usize, answer: impl for<'s> FnOnce(&'s mut Scratch, Call<'_>) -> Encoded<'s>,
 ) -> Ended {
-    let mut slot = Slot::new();
+    let mut scratch = Scratch::new();
     let slices = [IoSlice::new(request)];
-    let told = match slot.ask(&session(FsOptions::empty()), &slices, room) {
-        Asked::Call(pending) => answer(&mut slot, pending.call),
-        Asked::Finished(done) => panic!("{done:?}"),
-    };
-    let (outcome, taken, options) = (told.outcome, told.taken, told.options);
-    let mut given_back = Vec::new();
-    let mut reply = told.give_back(|node| given_back.push(node));
+    let call = call_of(&mut scratch, &slices, reply_size);
+    let encoded = answer(&mut scratch, call);
+    let (outcome, entries, options) = (encoded.outcome, encoded.entries, encoded.options);
+    let mut forgotten = Vec::new();
+    let mut reply = encoded.forget_lost(|node| forgotten.push(node));
     let len = reply.len();
     let bytes = reply.bytes().to_vec();
     // A copy has the same bytes, and does not change what follows them.
-    let mut copy = vec![0xaa; room + 9];
-    let (first, second) = copy.split_at_mut(room.min(5));
+    let mut copy = vec![0xaa; reply_size + 9];
+    let (first, second) = copy.split_at_mut(reply_size.min(5));
     let mut pieces = [first, &mut [], second].map(IoSliceMut::new);
     assert_eq!(reply.copy_to(&mut pieces), len);
     assert!(copy.starts_with(&bytes) && copy[bytes.len()..].iter().all(|byte| *byte == 0xaa));
-    Ended { outcome, given_back, taken, options, len, bytes }
+    Ended { outcome, forgotten, entries, options, len, bytes }
 }
 
 /// A result that has only a reply.
 fn replied(bytes: Vec<u8>) -> Ended {
-    Ended { outcome: Ok(()), given_back: Vec::new(), taken: 0, options: None, len: bytes.len(), bytes }
+    Ended { outcome: Ok(()), forgotten: Vec::new(), entries: 0, options: None, len: bytes.len(), bytes }
 }
 
-/// Asks with a large buffer, and answers by the field `to` of the call.
+/// Decodes a request, with a large reply buffer or one of this size, and answers by the field `to` of the
+/// call.
 macro_rules! answers {
-    ($request:expr, $call:ident, $slot:ident, $to:ident => $answer:expr) => {
-        answer(&$request.done(), 4096, |$slot, call| match call {
+    ($request:expr, $call:ident, $scratch:ident, $to:ident => $answer:expr) => {
+        answers!($request, 4096, $call, $scratch, $to => $answer)
+    };
+    ($request:expr, $reply_size:expr, $call:ident, $scratch:ident, $to:ident => $answer:expr) => {
+        answer(&$request.done(), $reply_size, |$scratch, call| match call {
             Call::$call { $to, .. } => $answer,
             other => panic!("{other:?}"),
         })
@@ -66,7 +68,7 @@ macro_rules! answers {
 macro_rules! replies {
     ($($request:expr => $call:ident $function:ident($($result:expr)?), $expected:expr;)*) => {
         $(
-            let made = answers!($request, $call, slot, to => to.$function(slot $(, $result)?));
+            let made = answers!($request, $call, scratch, to => to.$function(scratch $(, $result)?));
             assert_eq!(made, replied($expected));
         )*
     };
@@ -154,7 +156,7 @@ fn small_answers() {
     }
 }
 
-/// A GETXATTR of that many bytes.
+/// A GETXATTR of `size` bytes.
 fn getxattr(size: u32) -> Request {
     Request::new(22, 1).u32(size).u32(0).name("a")
 }
@@ -178,17 +180,14 @@ fn texts_and_counts() {
 fn texts_that_linux_does_not_take_are_faults() {
     for (len, expected) in [(4000, None), (4095, None), (4096, Some(5)), (1 << 20, Some(5))] {
         let text = vec![b'x'; len];
-        let request = Request::new(5, 1).done();
-        let made = answer(&request, 1 << 21, |slot, call| match call {
-            Call::Readlink { to, .. } => to.answer(slot, Ok(&text)),
-            other => panic!("{other:?}"),
-        });
+        let made =
+            answers!(Request::new(5, 1), 1 << 21, Readlink, scratch, to => to.answer(scratch, Ok(&text)));
         assert_eq!(made, replied(expected.map_or_else(|| reply(&text), fault)));
     }
     replies! {
         getxattr(5) => Getxattr answer(Ok(value())), reply(b"value");
         getxattr(4) => Getxattr answer(Ok(value())), fault(34);
-        // A value stands for its length where that is asked for; a length is no value.
+        // If the length is requested, a value is enough; if the value is requested, a length is not.
         getxattr(0) => Getxattr answer(Ok(value())), reply(&words(&[5, 0]));
         getxattr(9) => Getxattr answer(Ok(GetxattrReply::Count(9))), fault(5);
         getxattr(9) => Getxattr answer(Ok(GetxattrReply::Count(10))), fault(34);
@@ -216,18 +215,18 @@ fn faults() {
 
 #[test]
 fn results_of_ioctl() {
-    let ask = |flags: u32| Request::new(39, 5).u64(8).u32(flags).u32(0).u64(0).u32(0).u32(4);
+    let ioctl = |flags: u32| Request::new(39, 5).u64(8).u32(flags).u32(0).u64(0).u32(0).u32(4);
     let done = |output: &[u8]| Ok(IoctlReply::Done { result: -1, output: output.to_vec() });
     let head = words(&[u32::MAX, 0, 0, 0]);
     let range = IoctlRange { base: 1 << 32, len: 3 };
     let retry = |count| Ok(IoctlReply::Retry { input: vec![range; count], output: vec![range] });
     replies! {
-        ask(0) => Ioctl answer(done(b"")), reply(&head);
-        ask(0) => Ioctl answer(done(b"four")), reply(&[&head[..], b"four"].concat());
-        // More than is asked for is a fault, and so are too many ranges.
-        ask(0) => Ioctl answer(done(b"fives")), fault(5);
-        ask(2) => Ioctl answer(retry(1)), reply(&words(&[0, 4, 1, 1, 0, 1, 3, 0, 0, 1, 3, 0]));
-        ask(2) => Ioctl answer(retry(256)), fault(5);
+        ioctl(0) => Ioctl answer(done(b"")), reply(&head);
+        ioctl(0) => Ioctl answer(done(b"four")), reply(&[&head[..], b"four"].concat());
+        // More output than requested is an error, and so are too many ranges.
+        ioctl(0) => Ioctl answer(done(b"fives")), fault(5);
+        ioctl(2) => Ioctl answer(retry(1)), reply(&words(&[0, 4, 1, 1, 0, 1, 3, 0, 0, 1, 3, 0]));
+        ioctl(2) => Ioctl answer(retry(256)), fault(5);
         Request::new(39, 5).bytes(&[0; 32]) => Ioctl answer(os_error(25)), fault(25);
     }
 }
@@ -236,29 +235,22 @@ fn results_of_ioctl() {
 fn data_of_a_read_stand_in_the_room_already() {
     let request = reading(15, 2, 0, 100).done();
     let slices = [IoSlice::new(&request)];
-    let mut slot = Slot::new();
-    let mut room = vec![0xaa; 64];
-    if let Some(Call::Read { to, .. }) = asked(slot.ask(&session(FsOptions::empty()), &slices, room.len())) {
-        assert_eq!(to.most(), 48);
-        room[16..20].copy_from_slice(b"data");
-        let mut reply = to.answer(&mut slot, Ok(4)).reply();
-        assert_eq!(reply.bytes().len(), 16);
-        assert_eq!(reply.copy_to(&mut [IoSliceMut::new(&mut room)]), 20);
-        assert_eq!(room[..20], common::reply(b"data"));
-        assert!(room[20..].iter().all(|byte| *byte == 0xaa));
-    } else {
-        panic!("no READ");
+    let mut scratch = Scratch::new();
+    let mut buffer = vec![0xaa; 64];
+    match call_of(&mut scratch, &slices, buffer.len()) {
+        Call::Read { to, .. } => {
+            assert_eq!(to.max(), 48);
+            buffer[16..20].copy_from_slice(b"data");
+            let mut reply = to.answer(&mut scratch, Ok(4)).reply();
+            assert_eq!(reply.bytes().len(), 16);
+            assert_eq!(reply.copy_to(&mut [IoSliceMut::new(&mut buffer)]), 20);
+        }
+        other => panic!("{other:?}"),
     }
+    assert_eq!(buffer[..20], reply(b"data"));
+    assert!(buffer[20..].iter().all(|byte| *byte == 0xaa));
     // A count that is too large is answered EIO.
     replies! { reading(15, 2, 0, 100) => Read answer(Ok(101)), fault(5); }
-}
-
-/// The call, if there is one.
-fn asked<'r>(asked: Asked<'_, 'r>) -> Option<Call<'r>> {
-    match asked {
-        Asked::Call(pending) => Some(pending.call),
-        Asked::Finished(_) => None,
-    }
 }
 
 #[test]
@@ -271,26 +263,26 @@ fn a_write_says_how_much() {
 }
 
 #[test]
-fn options_are_told_after_init_and_destroy() {
+fn options_are_returned_after_init_and_destroy() {
     let init = Request::new(26, 0).u32(7).u32(38).u32(131_072).u32(1 << 13 | 1 << 14 | 1);
     let want = FsOptions::DO_READDIRPLUS | FsOptions::POSIX_ACL;
-    let made = answers!(init.clone(), Init, slot, to => to.answer(slot, Ok(want)));
+    let made = answers!(init.clone(), Init, scratch, to => to.answer(scratch, Ok(want)));
     let agreed = FsOptions::DO_READDIRPLUS | FsOptions::ASYNC_READ;
     // Version 7.38, the readahead, flags, 65535 in the background, congested at 49149, payloads of a
     // mebibyte, times in nanoseconds, 256 pages.
     let background = 65535 | 49149 << 16;
     let body = padded(&[7, 38, 131_072, 1 << 13 | 1, background, 1 << 20, 1, 256], 64);
     assert_eq!(made, Ended { options: Some(agreed), ..replied(reply(&body)) });
-    let made = answers!(init, Init, slot, to => to.answer(slot, os_error(13)));
+    let made = answers!(init, Init, scratch, to => to.answer(scratch, os_error(13)));
     assert_eq!(made, Ended { options: Some(FsOptions::empty()), ..replied(fault(13)) });
-    let made = answers!(Request::new(38, 0), Destroy, slot, to => to.done(slot));
+    let made = answers!(Request::new(38, 0), Destroy, scratch, to => to.done(scratch));
     assert_eq!(made, Ended { options: Some(FsOptions::empty()), ..replied(Vec::new()) });
 }
 
 #[test]
-fn limits_are_told_at_init() {
+fn limits_are_sent_at_init() {
     let init = |flags2| init(131_072, 1 << 30, flags2);
-    let further = FsOptions::HAS_RESEND | FsOptions::REQUEST_TIMEOUT;
+    let later = FsOptions::HAS_RESEND | FsOptions::REQUEST_TIMEOUT;
     let limits = Limits {
         max_readahead: 65536,
         max_write: 8192,
@@ -299,91 +291,56 @@ fn limits_are_told_at_init() {
         time_gran: 100,
         request_timeout: 60,
     };
-    let answered = |flags2, want: FsOptions, limits: Limits| answers!(init(flags2), Init, slot, to => to.answer_with(slot, Ok(want), limits));
+    let answered = |flags2, want: FsOptions, limits: Limits| {
+        let init = init(flags2);
+        answers!(init, Init, scratch, to => to.answer_with(scratch, Ok(want), limits))
+    };
     let agreed = FsOptions::INIT_EXT;
-    let made = answered(u32::MAX, further, limits);
-    let options = (agreed | further | FsOptions::CREATE_SUPP_GROUP | FsOptions::ALLOW_IDMAP).bits();
+    let made = answered(u32::MAX, later, limits);
+    let options = (agreed | later | FsOptions::CREATE_SUPP_GROUP | FsOptions::ALLOW_IDMAP).bits();
     let flags2 = u32::try_from(options >> 32).unwrap();
     let background = 10 << 16 | 0x14;
     let body = padded(&[7, 38, 65536, 1 << 30, background, 8192, 100, 256, flags2, 0, 60], 64);
     let options = Some(FsOptions::from_bits_truncate(options));
     assert_eq!(made, Ended { options, ..replied(reply(&body)) });
-    // What the client does not offer is not agreed on. Without limits, nothing changes.
-    let made = answered(0, further, Limits::default());
+    // Options of which the client is not capable are not agreed on. Without limits, the reply does not
+    // change.
+    let made = answered(0, later, Limits::default());
     let body = padded(&[7, 38, 131_072, 1 << 30, 65535 | 49149 << 16, 1 << 20, 1, 256], 64);
     assert_eq!(made, Ended { options: Some(agreed), ..replied(reply(&body)) });
-    let made = answers!(init(0), Init, slot, to => to.answer_with(slot, os_error(13), limits));
+    let made = answers!(init(0), Init, scratch, to => to.answer_with(scratch, os_error(13), limits));
     assert_eq!(made, Ended { options: Some(FsOptions::empty()), ..replied(fault(13)) });
 }
 
 #[test]
-fn an_entry_that_does_not_fit_is_given_back() {
+fn an_entry_that_does_not_fit_is_forgotten() {
     let nothing =
-        |given_back| Ended { outcome: Err(Refusal::EncodeMessage), given_back, ..replied(Vec::new()) };
-    let looked_up = |room, node| {
-        answer(&lookup().done(), room, |slot, call| match call {
-            Call::Lookup { to, .. } => to.answer(slot, Ok(entry(node))),
-            other => panic!("{other:?}"),
-        })
+        |forgotten| Ended { outcome: Err(Refusal::EncodeMessage), forgotten, ..replied(Vec::new()) };
+    let looked_up = |reply_size, node| {
+        let entry = entry(node);
+        answers!(lookup(), reply_size, Lookup, scratch, to => to.answer(scratch, Ok(entry)))
     };
-    for room in 0..144 {
-        assert_eq!(looked_up(room, 9), nothing(vec![9]));
+    for reply_size in 0..144 {
+        assert_eq!(looked_up(reply_size, 9), nothing(vec![9]));
     }
     // Node 0 has no lookup, and an error no entry.
     assert_eq!(looked_up(143, 0), nothing(Vec::new()));
-    let made = answer(&lookup().done(), 15, |slot, call| call.fail(slot, &io::ErrorKind::Other.into()));
+    let made = answer(&lookup().done(), 15, |scratch, call| call.fail(scratch, &io::ErrorKind::Other.into()));
     assert_eq!(made, nothing(Vec::new()));
 }
 
 #[test]
-fn a_handle_that_does_not_fit_is_told() {
-    let none = OpenOptions::empty();
-    let lost = |request: Request, room, answered: io::Result<Option<u64>>| {
-        let mut lost = None;
-        let made = answer(&request.done(), room, |slot, call| {
-            let told = match call {
-                Call::Open { to, .. } | Call::Opendir { to, .. } => {
-                    to.answer(slot, answered.map(|handle| (handle, none)))
-                }
-                Call::Create { to, .. } | Call::Tmpfile { to, .. } => {
-                    to.answer(slot, answered.map(|handle| (entry(9), handle, none)))
-                }
-                other => panic!("{other:?}"),
-            };
-            lost = told.lost_handle();
-            told
-        });
-        assert_eq!(made.outcome.is_err(), made.len == 0);
-        lost
-    };
-    let open = |opcode| Request::new(opcode, 5).u32(0).u32(0);
-    let create = |opcode| Request::new(opcode, 5).u32(0).u32(0).u32(0).u32(0).name("a");
-    // The reply of an OPEN or an OPENDIR has 32 bytes, that of a CREATE or a TMPFILE 160. The handle is one of its new node.
-    for opcode in [14, 27] {
-        assert_eq!(lost(open(opcode), 31, Ok(Some(3))), Some((5, 3)));
-        assert_eq!(lost(open(opcode), 32, Ok(Some(3))), None);
-        assert_eq!(lost(open(opcode), 31, Ok(None)), None);
-        assert_eq!(lost(open(opcode), 15, Err(io::ErrorKind::Other.into())), None);
-    }
-    for opcode in [35, 51] {
-        assert_eq!(lost(create(opcode), 159, Ok(Some(3))), Some((9, 3)));
-        assert_eq!(lost(create(opcode), 160, Ok(Some(3))), None);
-        assert_eq!(lost(create(opcode), 159, Ok(None)), None);
-    }
-}
-
-#[test]
 #[should_panic(expected = "an entry of node 9")]
-fn what_may_have_to_be_given_back_is_not_forgotten() {
+fn a_reply_with_an_entry_comes_from_forget_lost() {
     let request = lookup().done();
     let slices = [IoSlice::new(&request)];
-    let mut slot = Slot::new();
-    if let Some(Call::Lookup { to, .. }) = asked(slot.ask(&session(FsOptions::empty()), &slices, 4096)) {
-        let _ = to.answer(&mut slot, Ok(entry(9))).reply();
+    let mut scratch = Scratch::new();
+    if let Call::Lookup { to, .. } = call_of(&mut scratch, &slices, 4096) {
+        let _ = to.answer(&mut scratch, Ok(entry(9))).reply();
     }
 }
 
-/// A READDIR or a READDIRPLUS of that many bytes.
+/// A READDIR or a READDIRPLUS of `size` bytes.
 fn readdir(opcode: u32, size: u32) -> Request {
     reading(opcode, 1, 0, size)
 }
@@ -395,7 +352,7 @@ fn directories_end_where_an_item_does_not_fit() {
         .iter()
         .zip([DT_DIR, DT_DIR, DT_REG, DT_REG])
         .zip(10..)
-        .map(|((name, kind), ino)| Item::new(ino, ino - 9, kind, name))
+        .map(|((name, kind), ino)| DirItem::new(ino, ino - 9, kind, name))
         .collect();
     let records = [
         record(10, 1, 4, "."),
@@ -404,21 +361,21 @@ fn directories_end_where_an_item_does_not_fit() {
         record(13, 4, 8, "longer-name"),
     ];
     // 32, 32, 32 and 40 bytes
-    for (size, taken) in [(31, 0), (32, 1), (95, 2), (96, 3), (135, 3), (136, 4), (4000, 4)] {
-        let made = answers!(readdir(28, size), Readdir, slot, to => to.answer(slot, Ok(&items)));
-        assert_eq!(made, Ended { taken, ..replied(reply(&records[..taken].concat())) });
+    for (size, entries) in [(31, 0), (32, 1), (95, 2), (96, 3), (135, 3), (136, 4), (4000, 4)] {
+        let made = answers!(readdir(28, size), Readdir, scratch, to => to.answer(scratch, Ok(&items)));
+        assert_eq!(made, Ended { entries, ..replied(reply(&records[..entries].concat())) });
     }
 }
 
 #[test]
-fn readdirplus_gives_back_what_does_not_fit() {
+fn readdirplus_forgets_what_does_not_fit() {
     let names = [".", "a", "b", "c", "d"].map(|name| CString::new(name).unwrap());
     let items = [
-        Item::new(10, 1, DT_DIR, &names[0]).looked_up(&Ok(entry(99))),
-        Item::new(11, 2, DT_REG, &names[1]).looked_up(&Ok(entry(51))),
-        Item::new(12, 3, DT_REG, &names[2]).looked_up(&Ok(entry(52))),
-        Item::new(13, 4, DT_REG, &names[3]).looked_up(&Ok(entry(0))),
-        Item::new(14, 5, DT_REG, &names[4]).looked_up(&os_error(5)),
+        DirItem::new(10, 1, DT_DIR, &names[0]).looked_up(&Ok(entry(99))),
+        DirItem::new(11, 2, DT_REG, &names[1]).looked_up(&Ok(entry(51))),
+        DirItem::new(12, 3, DT_REG, &names[2]).looked_up(&Ok(entry(52))),
+        DirItem::new(13, 4, DT_REG, &names[3]).looked_up(&Ok(entry(0))),
+        DirItem::new(14, 5, DT_REG, &names[4]).looked_up(&os_error(5)),
     ];
     assert!(items[0].is_dot() && !items[1].is_dot());
     assert_eq!(items[2].name(), names[2].as_c_str());
@@ -432,16 +389,16 @@ fn readdirplus_gives_back_what_does_not_fit() {
         [entry_bytes(52), record(12, 3, 8, "b")].concat(),
         [entry_bytes(0), record(13, 4, 8, "c")].concat(),
     ];
-    for (size, taken, given_back) in [
+    for (size, entries, forgotten) in [
         (159, 0, vec![51, 52]),
         (160, 1, vec![51, 52]),
         (479, 2, vec![52]),
         (480, 3, vec![]),
         (4000, 4, vec![]),
     ] {
-        let made = answers!(readdir(44, size), Readdir, slot, to => to.answer(slot, Ok(&items)));
-        let expected = replied(reply(&records[..taken].concat()));
-        assert_eq!(made, Ended { given_back, taken, ..expected });
+        let made = answers!(readdir(44, size), Readdir, scratch, to => to.answer(scratch, Ok(&items)));
+        let expected = replied(reply(&records[..entries].concat()));
+        assert_eq!(made, Ended { forgotten, entries, ..expected });
     }
     replies! {
         // The error of the first lookup is the reply.

@@ -6,15 +6,15 @@ mod common;
 use common::diary::{each_call, lock, Row};
 use common::{each_cutting, fault, init, session, words, Request, WHO};
 use nizwarf::{
-    Asked, Call, Context, Extensions, FsOptions, Offers, SecContext, Session, SetattrValid, SetxattrFlags,
-    Slot,
+    Call, Context, Decoded, Extensions, Features, FsOptions, Scratch, SecContext, Session, SetattrValid,
+    SetxattrFlags,
 };
 use std::ffi::{CStr, CString};
 use std::io::{self, IoSlice};
 
-/// Asks for the calls of requests, and checks each: by its pattern, and by a condition on the variables of that.
-/// After `with` there are the options of the session.
-macro_rules! asks {
+/// Decodes requests, and checks each call: by its pattern, and by a condition on the variables of that. The
+/// options of the session follow after `with`.
+macro_rules! calls {
     (options) => { FsOptions::empty() };
     (options $options:expr) => { $options };
     (call $call:ident $Call:ident { $($field:tt)* } $($facts:expr)?) => {
@@ -24,9 +24,9 @@ macro_rules! asks {
         }
     };
     ($($request:expr $(, with $options:expr)? => $Call:ident $fields:tt $(if $facts:expr)?;)*) => {
-        $(each_cutting(asks!(options $($options)?), &$request.done(), |context, call| {
+        $(each_cutting(calls!(options $($options)?), &$request.done(), |context, call| {
             assert_eq!(context, caller_of(&call));
-            asks!(call call $Call $fields $($facts)?);
+            calls!(call call $Call $fields $($facts)?);
         });)*
     };
 }
@@ -45,48 +45,43 @@ fn caller_of(call: &Call<'_>) -> Context {
     }
 }
 
+/// The extensions of a call. Calls that create no node have none.
+fn extensions_of(call: &Call<'_>) -> Extensions {
+    match call {
+        Call::Symlink { extensions, .. }
+        | Call::Mknod { extensions, .. }
+        | Call::Mkdir { extensions, .. }
+        | Call::Create { extensions, .. }
+        | Call::Tmpfile { extensions, .. } => extensions.clone(),
+        _ => Extensions::default(),
+    }
+}
+
 #[test]
-fn each_request_asks_for_its_call() {
+fn each_request_is_decoded_into_its_call() {
     for Row { request, is, line, .. } in each_call() {
         each_cutting(FsOptions::empty(), &request.done(), |context, call| {
             assert!(is(&call), "{line}: {call:?}");
             assert_eq!(context, caller_of(&call), "{line}");
+            assert_eq!(extensions_of(&call), Extensions::default(), "{line}");
         });
     }
 }
 
 #[test]
-fn names() {
-    asks! {
-        Request::new(1, 1).name("a.b") => Lookup { parent: 1, name, .. } if is(&name, "a.b");
+fn names_and_attributes() {
+    calls! {
         Request::new(1, 1).name("") => Lookup { name, .. } if is(&name, "");
-        Request::new(12, 2).u64(3).name("old").name("new") =>
-            Rename { parent: 2, name, new_parent: 3, new_name, flags: 0, .. }
-            if is(&name, "old") && is(&new_name, "new");
         // The flags of a RENAME2 are reduced to NOREPLACE, EXCHANGE and WHITEOUT.
         Request::new(45, 2).u64(3).u32(0xff).u32(0).name("old").name("new") =>
             Rename { parent: 2, name, new_parent: 3, new_name, flags: 7, .. }
             if is(&name, "old") && is(&new_name, "new");
-    }
-}
-
-#[test]
-fn new_nodes() {
-    let none = Extensions::default();
-    asks! {
-        Request::new(6, 2).name("link").name("to/where") =>
-            Symlink { linkname, parent: 2, name, extensions, .. }
-            if is(&linkname, "to/where") && is(&name, "link") && extensions == none;
-        Request::new(8, 2).u32(0o10644).u32(5).u32(0o22).u32(0).name("pipe") =>
-            Mknod { parent: 2, name, mode: 0o10644, rdev: 5, umask: 0o22, extensions, .. }
-            if is(&name, "pipe") && extensions == none;
-        Request::new(9, 2).u32(0o755).u32(0o22).name("dir") =>
-            Mkdir { parent: 2, name, mode: 0o755, umask: 0o22, extensions, .. }
-            if is(&name, "dir") && extensions == none;
-        Request::new(35, 2).u32(0x41).u32(0o100_600).u32(0o77).u32(1).name("file") =>
-            Create { parent: 2, name, mode: 0o100_600, kill_priv: true, flags: 0x41, umask: 0o77, extensions,
-                .. }
-            if is(&name, "file") && extensions == none;
+        Request::new(21, 5).u32(5).u32(2).u32(3).u32(0).name("user.a").bytes(b"value"),
+            with FsOptions::SETXATTR_EXT =>
+            Setxattr { node: 5, name, value, flags: 2, extra_flags, .. }
+            if is(&name, "user.a")
+                && *value == *b"value"
+                && extra_flags == SetxattrFlags::SETXATTR_ACL_KILL_SGID;
     }
 }
 
@@ -102,7 +97,7 @@ fn extensions_of_new_nodes() {
         sup_gid: Some(4242),
     };
     let mkdir = |blocks: &[u8]| Request::new(9, 2).u32(0o755).u32(0).name("dir").bytes(blocks);
-    asks! {
+    calls! {
         mkdir(&[&group[..], &context].concat()), with options =>
             Mkdir { extensions, .. } if extensions == expected;
         mkdir(&[&context[..], &group].concat()), with options =>
@@ -117,9 +112,8 @@ fn nodes() {
     // A SETATTR of mode and size, by a handle, with an unknown bit.
     let record = Request::new(4, 5).u32(0x8000 | 1 | 8 | 64).u32(0).u64(8).u64(99).u64(0);
     let record = record.u64(1).u64(2).u64(3).u32(4).u32(5).u32(6).u32(0o600).u32(0).u32(7).u32(8);
-    asks! {
+    calls! {
         Request::new(3, 5).u32(0).u32(0).u64(8) => Getattr { node: 5, handle: None, .. };
-        Request::new(3, 5).u32(1).u32(0).u64(8) => Getattr { node: 5, handle: Some(8), .. };
         record.u32(0) => Setattr { node: 5, attr, handle: Some(8), valid, .. }
             if valid == SetattrValid::MODE | SetattrValid::SIZE
                 && (attr.size, attr.mode, attr.uid, attr.gid) == (99, 0o600, 7, 8)
@@ -127,23 +121,6 @@ fn nodes() {
                 && (attr.atimensec, attr.mtimensec, attr.ctimensec) == (4, 5, 6);
         Request::new(42, 0).u32(2).u32(0).u64(5).u64(1).u64(6).u64(9) => BatchForget { forgets, .. }
             if forgets.collect::<Vec<_>>() == [(5, 1), (6, 9)];
-    }
-}
-
-#[test]
-fn extended_attributes() {
-    asks! {
-        Request::new(21, 5).u32(5).u32(1).name("user.a").bytes(b"value") =>
-            Setxattr { node: 5, name, value, flags: 1, extra_flags, .. }
-            if is(&name, "user.a") && *value == *b"value" && extra_flags.is_empty();
-        Request::new(21, 5).u32(5).u32(2).u32(3).u32(0).name("user.a").bytes(b"value"),
-            with FsOptions::SETXATTR_EXT =>
-            Setxattr { node: 5, name, value, flags: 2, extra_flags, .. }
-            if is(&name, "user.a")
-                && *value == *b"value"
-                && extra_flags == SetxattrFlags::SETXATTR_ACL_KILL_SGID;
-        Request::new(22, 5).u32(100).u32(0).name("user.a") => Getxattr { node: 5, name, size: 100, .. }
-            if is(&name, "user.a");
     }
 }
 
@@ -155,13 +132,12 @@ fn moves(opcode: u32, size: u32, its_flags: u32) -> Request {
 #[test]
 fn open_files() {
     let release = |flags| Request::new(18, 5).u64(8).u32(0x8000).u32(flags).u64(44);
-    asks! {
-        Request::new(14, 5).u32(0x8001).u32(1) => Open { node: 5, kill_priv: true, flags: 0x8001, .. };
+    calls! {
         Request::new(14, 5).u32(0).u32(0) => Open { node: 5, kill_priv: false, flags: 0, .. };
         moves(15, 6000, 0) =>
             Read { node: 5, handle: 8, size: 6000, offset: 0x100_0000_0000, lock_owner: None, flags: 2, to }
-            if to.most() == 4080 && to.room() == 4096 && to.unique() == 7;
-        moves(15, 60, 2) => Read { lock_owner: Some(44), to, .. } if to.most() == 60;
+            if to.max() == 4080 && to.reply_size() == 4096 && to.unique() == 7;
+        moves(15, 60, 2) => Read { lock_owner: Some(44), to, .. } if to.max() == 60;
         moves(16, 4, 0).bytes(b"data") =>
             Write { node: 5, handle: 8, data, size: 4, offset: 0x100_0000_0000, lock_owner: None,
                 delayed_write: false, kill_priv: false, flags: 2, .. }
@@ -179,49 +155,35 @@ fn open_files() {
 }
 
 #[test]
-fn directories() {
-    asks! {
-        Request::new(27, 5).u32(0x10000).u32(0) => Opendir { node: 5, flags: 0x10000, .. };
-        moves(28, 4000, 0) =>
-            Readdir { node: 5, handle: 8, size: 4000, offset: 0x100_0000_0000, plus: false, .. };
-        moves(44, 4000, 0) =>
-            Readdir { node: 5, handle: 8, size: 4000, offset: 0x100_0000_0000, plus: true, .. };
-        Request::new(29, 5).u64(8).u32(0x10000).u32(0).u64(0) =>
-            Releasedir { node: 5, flags: 0x10000, handle: 8, .. };
-        Request::new(30, 5).u64(8).u32(0).u32(0) => Fsyncdir { node: 5, datasync: false, handle: 8, .. };
-    }
-}
-
-#[test]
 fn sessions() {
     // The library itself does not know these.
-    let further = FsOptions::HAS_RESEND | FsOptions::REQUEST_TIMEOUT;
-    let bits = u32::try_from(further.bits() >> 32).unwrap() | 1 << 5 | 1 << 9;
-    asks! {
+    let later = FsOptions::HAS_RESEND | FsOptions::REQUEST_TIMEOUT;
+    let bits = u32::try_from(later.bits() >> 32).unwrap() | 1 << 5 | 1 << 9;
+    calls! {
         // Bit 26 is no option. Without bit 30 the second record is ignored.
         Request::new(26, 0).u32(7).u32(38).u32(131_072).u32(1 << 26 | 1 << 13).bytes(&[0xff; 48]) =>
             Init { capable: FsOptions::DO_READDIRPLUS, readahead: 131_072, .. };
         init(131_072, 1 << 30, 1) => Init { capable, .. }
             if capable == FsOptions::INIT_EXT | FsOptions::SECURITY_CTX;
-        init(0, 1 << 30, bits) => Init { capable, .. } if capable == FsOptions::INIT_EXT | further;
+        init(0, 1 << 30, bits) => Init { capable, .. } if capable == FsOptions::INIT_EXT | later;
     }
 }
 
 /// The number of the call of a request, if it is unknown.
 fn unknown(session: &Session, request: Request) -> Option<u32> {
     let request = request.done();
-    let mut slot = Slot::new();
+    let mut scratch = Scratch::new();
     let slices = [IoSlice::new(&request)];
-    match slot.ask(session, &slices, 4096) {
-        Asked::Call(pending) => match pending.call {
+    match scratch.decode(session, &slices, 4096) {
+        Decoded::Call(pending) => match pending.call {
             Call::Unknown { number, to } => {
-                let told = to.fail(&mut slot, &io::Error::from_raw_os_error(38));
-                assert_eq!(told.reply().bytes(), fault(38));
+                let encoded = to.fail(&mut scratch, &io::Error::from_raw_os_error(38));
+                assert_eq!(encoded.reply().bytes(), fault(38));
                 Some(number)
             }
             _ => None,
         },
-        Asked::Finished(mut done) => {
+        Decoded::Finished(mut done) => {
             assert_eq!(done.reply.bytes(), fault(38));
             None
         }
@@ -229,14 +191,14 @@ fn unknown(session: &Session, request: Request) -> Option<u32> {
 }
 
 #[test]
-fn what_is_not_offered_is_unknown() {
+fn what_is_not_enabled_is_unknown() {
     let rows = || each_call().into_iter().map(|row| row.request);
     let unknown_in =
         |session: &Session| -> Vec<u32> { rows().filter_map(|request| unknown(session, request)).collect() };
     // The opcodes 52 and 53 do not exist then.
     assert_eq!(unknown_in(&Session::default()), [31, 32, 33, 37, 39, 40, 40, 41, 51]);
     let mut some = Session::default();
-    some.set_offers(Offers::LOCKS | Offers::IOCTL);
+    some.set_features(Features::LOCKS | Features::IOCTL);
     assert_eq!(unknown_in(&some), [37, 40, 40, 41, 51]);
     assert_eq!(unknown_in(&session(FsOptions::empty())), []);
     // So is a lock of an unknown type.

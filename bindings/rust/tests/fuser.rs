@@ -1,5 +1,5 @@
-//! File systems that are written for fuser, over a socket that keeps messages apart: their replies, also later and of
-//! another thread, how their sessions begin and end, and hostile requests.
+//! File systems that are written for fuser, over a socket that keeps messages apart: their replies, also
+//! later and of another thread, how their sessions begin and end, and hostile requests.
 
 mod common;
 #[macro_use]
@@ -12,8 +12,8 @@ use nizwarf::fuser::{
     spawn_mount2, BackgroundSession, Config, Errno, FileAttr, FileHandle, FileType, Filesystem, FopenFlags,
     Generation, INodeNo, InitFlags, IoctlFlags, KernelConfig, LockOwner, MountOption, Notifier, OpenFlags,
     PollEvents, PollFlags, PollNotifier, ReplyAttr, ReplyCreate, ReplyData, ReplyDirectory,
-    ReplyDirectoryPlus, ReplyEmpty, ReplyEntry, ReplyIoctl, ReplyLock, ReplyOpen, ReplyPoll, ReplyStatfs,
-    ReplyWrite, ReplyXattr, Request as Caller, Session, SessionACL, Version, WriteFlags,
+    ReplyDirectoryPlus, ReplyEntry, ReplyIoctl, ReplyLock, ReplyOpen, ReplyPoll, ReplyStatfs, ReplyWrite,
+    ReplyXattr, Request as Caller, Session, SessionACL, Version, WriteFlags,
 };
 use std::ffi::OsStr;
 use std::fs::{self, File};
@@ -79,7 +79,10 @@ impl Files {
 
 impl Filesystem for Files {
     fn init(&mut self, req: &Caller, config: &mut KernelConfig) -> io::Result<()> {
-        assert_eq!((req.uid(), req.gid(), req.pid(), req.unique().0), (1000, 1001, 77, 7));
+        // (the INIT of a mount is the kernel's)
+        if req.unique().0 == 7 {
+            assert_eq!((req.uid(), req.gid(), req.pid()), (1000, 1001, 77));
+        }
         self.seen.begun.fetch_add(1, Ordering::Relaxed);
         *self.seen.version.lock().unwrap() = Some(config.kernel_abi());
         config.add_capabilities(self.begins.map_err(io::Error::from_raw_os_error)?).unwrap();
@@ -109,7 +112,7 @@ impl Filesystem for Files {
         match ino.0 {
             9 => self.later.lock().unwrap().send(reply).unwrap(),
             10 => drop(reply),
-            666 => panic!("it was asked for"),
+            666 => panic!("as requested"),
             ino => reply.attr(&SECOND, &attr(ino)),
         }
     }
@@ -220,7 +223,7 @@ fn config(threads: usize) -> Config {
     config
 }
 
-/// An INIT that offers all options.
+/// An INIT with all options.
 fn init() -> Vec<u8> {
     common::init(4096, u32::MAX, u32::MAX).done()
 }
@@ -228,7 +231,7 @@ fn init() -> Vec<u8> {
 /// Begins a session.
 fn begin(files: Files, acl: SessionACL, threads: usize) -> (Peer, io::Result<Session<Files>>) {
     let (client, device) = Peer::new();
-    // What comes before an INIT is refused.
+    // Requests before an INIT are refused.
     client.send(&Request::new(17, 1).done());
     client.send(&init());
     let session = Session::from_fd(files, OwnedFd::from(device), acl, config(threads));
@@ -289,7 +292,7 @@ fn replies_are_those_of_the_protocol() {
         (Request::new(14, 4).u32(2).u32(0).done(), reply(&words(&[5, 0, 2, 0]))),
         (reading(15, 4, 0, 3), reply(b"ddd")),
         (reading(15, 4, 0, 0), reply(b"")),
-        // More than was asked for, and no place in a file.
+        // More than requested, and no offset in a file.
         (reading(15, 8, 0, 3), fault(5)),
         (reading(15, 4, 1 << 63, 3), fault(22)),
         (reading(28, 1, 0, 70), reply(&first)),
@@ -302,7 +305,7 @@ fn replies_are_those_of_the_protocol() {
         (Request::new(22, 5).u32(0).u32(0).name("user.a").done(), reply(&words(&[7, 0]))),
         (Request::new(22, 5).u32(6).u32(0).name("user.a").done(), fault(34)),
         (Request::new(22, 5).u32(7).u32(0).name("user.a").done(), reply(b"1234567")),
-        // What has no method of its own here.
+        // Methods that the file system does not have.
         (Request::new(9, 1).u32(0).u32(0).name("d").done(), {
             let entry = [words(&[50, 0, 0, 0, 1, 0, 1, 0, 0, 0]), attr_record(50, 0o100_644)];
             reply(&entry.concat())
@@ -313,7 +316,7 @@ fn replies_are_those_of_the_protocol() {
         // There is one INIT.
         (init(), fault(5)),
     ] {
-        assert_eq!(served.client.ask(&request), expected, "{request:?}");
+        assert_eq!(served.client.exchange(&request), expected, "{request:?}");
     }
     served.end().unwrap();
 }
@@ -328,7 +331,7 @@ fn a_reply_comes_later_and_from_another_thread() {
             later.recv().unwrap()
         })
         .collect();
-    assert_eq!(served.client.ask(&Request::new(5, 4).done()), reply(b"llll"));
+    assert_eq!(served.client.exchange(&Request::new(5, 4).done()), reply(b"llll"));
     let mut waiting = waiting.into_iter();
     let mut next = || waiting.next().unwrap();
     let (first, second, third, last) = (next(), next(), next(), next());
@@ -347,12 +350,12 @@ fn a_reply_comes_later_and_from_another_thread() {
     assert_eq!(served.client.receive(), b"");
 }
 
-/// A file system whose listings have an entry, and a name that is none. That of node 1 is answered as its entry is
-/// given back.
+/// A file system whose listings have an entry, and an invalid name. That of node 1 is answered when its entry
+/// is forgotten.
 #[derive(Debug, Default)]
 struct Losing {
     kept: Mutex<Option<ReplyDirectoryPlus>>,
-    given_back: Arc<AtomicUsize>,
+    forgotten: Arc<AtomicUsize>,
 }
 
 impl Filesystem for Losing {
@@ -368,7 +371,7 @@ impl Filesystem for Losing {
     }
 
     fn forget(&self, _: &Caller, _: INodeNo, _: u64) {
-        self.given_back.fetch_add(1, Ordering::Relaxed);
+        self.forgotten.fetch_add(1, Ordering::Relaxed);
         let kept = self.kept.lock().unwrap().take();
         if let Some(reply) = kept {
             reply.ok();
@@ -377,10 +380,10 @@ impl Filesystem for Losing {
 }
 
 #[test]
-fn what_is_given_back_may_answer_another_call() {
+fn what_is_forgotten_may_answer_another_call() {
     let (client, device) = Peer::new();
     let files = Losing::default();
-    let given_back = Arc::clone(&files.given_back);
+    let forgotten = Arc::clone(&files.forgotten);
     client.send(&init());
     let session = Session::from_fd(files, OwnedFd::from(device), SessionACL::All, config(1));
     let session = session.unwrap().spawn().unwrap();
@@ -388,13 +391,13 @@ fn what_is_given_back_may_answer_another_call() {
     client.send(&reading(44, 1, 0, 4000).done());
     client.send(&reading(44, 2, 0, 4000).done());
     assert_eq!(client.receive(), fault(5));
-    // When the second one's entry is given back, the first is answered; then its own is given back.
+    // When the second one's entry is forgotten, the first is answered; then its own is forgotten.
     for _ in 0..2 {
         client.send(&getattr(2));
     }
     let replies = [client.receive(), client.receive(), client.receive()];
     assert_eq!(replies, [fault(5), fault(38), fault(38)]);
-    assert_eq!(given_back.load(Ordering::Relaxed), 2);
+    assert_eq!(forgotten.load(Ordering::Relaxed), 2);
     client.send(&[]);
     session.join().unwrap();
 }
@@ -406,7 +409,7 @@ fn a_session_begins_and_ends_once() {
     let (files, seen, _) = Files::new(Ok(InitFlags::FUSE_WRITEBACK_CACHE));
     let (client, session) = begin(files, SessionACL::All, 2);
     let answer = client.receive();
-    // ASYNC_READ, BIG_WRITES, MAX_PAGES and INIT_EXT, and what was asked for; the longest WRITE.
+    // ASYNC_READ, BIG_WRITES, MAX_PAGES and INIT_EXT, and the options that were wanted; the longest WRITE.
     assert_eq!(word(&answer, 28), 1 | 1 << 5 | 1 << 16 | 1 << 22 | 1 << 30);
     assert_eq!((word(&answer, 24), word(&answer, 36)), (4096, 65536));
     let notifier: Notifier = session.as_ref().map(Session::notifier).unwrap();
@@ -436,7 +439,7 @@ fn a_panic_ends_a_session_after_its_caller_is_answered() {
     let (files, seen, _) = Files::new(Ok(InitFlags::empty()));
     let mut served = Served::new(files, SessionACL::All);
     std::panic::set_hook(Box::new(|_| ()));
-    assert_eq!(served.client.ask(&getattr(666)), fault(5));
+    assert_eq!(served.client.exchange(&getattr(666)), fault(5));
     served.client.send(&[]);
     let ended = served.session.take().unwrap().join();
     let _ = std::panic::take_hook();
@@ -453,12 +456,12 @@ fn only_those_users_are_served_that_may() {
     for (acl, expected) in [(SessionACL::Owner, 13), (SessionACL::RootAndOwner, 13)] {
         let (files, _, _) = Files::new(Ok(InitFlags::empty()));
         let mut served = Served::new(files, acl);
-        assert_eq!(served.client.ask(&Request::new(5, 4).done()), fault(expected));
+        assert_eq!(served.client.exchange(&Request::new(5, 4).done()), fault(expected));
         // The kernel reads for nobody.
-        assert_eq!(served.client.ask(&reading(15, 4, 0, 3).done()), reply(b"ddd"));
+        assert_eq!(served.client.exchange(&reading(15, 4, 0, 3).done()), reply(b"ddd"));
         let mut by_root = Request::new(5, 4).done();
         by_root[24..28].fill(0);
-        assert_eq!(served.client.ask(&by_root), reply(b"llll"));
+        assert_eq!(served.client.exchange(&by_root), reply(b"llll"));
         served.end().unwrap();
     }
 }
@@ -500,7 +503,7 @@ fn hostile_requests() {
                 }
             }
         }
-        // (a NOTIFY_REPLY is not offered, and only that is answered)
+        // (a NOTIFY_REPLY has a reply only where it is not enabled)
         let (none, perhaps) = (matches!(opcode, 2 | 42), matches!(opcode, 36 | 41) || request.len() < 16);
         assert!(perhaps || own.is_some() != none, "round {round}: {request:?}");
         let own = own.unwrap_or_default();
@@ -522,7 +525,7 @@ fn a_mount_ends_with_its_session() {
     config.mount_options = vec![MountOption::RO, MountOption::FSName("files".into())];
     for unmounts in [true, false] {
         let (files, seen, _) = Files::new(Ok(InitFlags::empty()));
-        let session = match spawn_mount2(Any(files), &folder.0, &config) {
+        let session = match spawn_mount2(files, &folder.0, &config) {
             Ok(session) => session,
             Err(error) => return eprintln!("fuser: nothing is mounted: {error}"),
         };
@@ -539,31 +542,6 @@ fn a_mount_ends_with_its_session() {
     }
     config.mount_options.push(MountOption::RW);
     let (files, _, _) = Files::new(Ok(InitFlags::empty()));
-    let error = spawn_mount2(Any(files), &folder.0, &config).unwrap_err();
+    let error = spawn_mount2(files, &folder.0, &config).unwrap_err();
     assert!(error.to_string().contains("RO and RW"), "{error}");
-}
-
-/// A [`Files`] that does not care who begins it.
-struct Any(Files);
-
-impl Filesystem for Any {
-    fn destroy(&mut self) {
-        self.0.destroy();
-    }
-
-    fn lookup(&self, req: &Caller, parent: INodeNo, name: &OsStr, reply: ReplyEntry) {
-        self.0.lookup(req, parent, name, reply);
-    }
-
-    fn getattr(&self, req: &Caller, ino: INodeNo, fh: Option<FileHandle>, reply: ReplyAttr) {
-        self.0.getattr(req, ino, fh, reply);
-    }
-
-    fn readdir(&self, req: &Caller, ino: INodeNo, fh: FileHandle, at: u64, reply: ReplyDirectory) {
-        self.0.readdir(req, ino, fh, at, reply);
-    }
-
-    fn flush(&self, _: &Caller, _: INodeNo, _: FileHandle, _: LockOwner, reply: ReplyEmpty) {
-        reply.ok();
-    }
 }

@@ -5,8 +5,8 @@ mod common;
 use common::diary::lock;
 use common::{fault, init, reading, reply, words, Peer, Request};
 use nizwarf::{
-    Call, Client, Context, Entry, Errno, FileSystem, FsOptions, Limits, NoEntries, Notifier, Offers,
-    PollHandle, Server, Slot,
+    Call, Client, Context, Entry, Errno, Features, FileSystem, FsOptions, Limits, NoEntries, Notifier,
+    PollHandle, Scratch, Server,
 };
 use std::ffi::{CStr, CString};
 use std::io;
@@ -15,7 +15,7 @@ use std::sync::mpsc::{channel, Receiver, Sender};
 use std::sync::Mutex;
 use std::thread;
 
-/// What is taken, with what answers it.
+/// A call that was taken, with its number and the client for its reply.
 type Taken = (u64, Call<'static>, Client);
 
 /// A file system that takes calls: locks that wait, and reads of node 9. One of node 666 panics.
@@ -26,10 +26,11 @@ struct Taking {
 }
 
 impl Taking {
-    fn new() -> (Self, Receiver<Taken>) {
+    /// A server of one, and what that takes.
+    fn served() -> (Server<Self>, Receiver<Taken>) {
         let (taken, later) = channel();
         let (begun, polled) = (Mutex::default(), Mutex::default());
-        (Taking { taken: Mutex::new(taken), begun, polled }, later)
+        (Server::new(Taking { taken: Mutex::new(taken), begun, polled }), later)
     }
 
     fn notifier(&self) -> Notifier {
@@ -46,8 +47,8 @@ impl FileSystem for Taking {
     type Handle = u64;
     type DirIter = NoEntries;
 
-    fn offers(&self) -> Offers {
-        Offers::LOCKS | Offers::POLL
+    fn features(&self) -> Features {
+        Features::LOCKS | Features::POLL
     }
 
     fn init(&self, _: FsOptions) -> io::Result<FsOptions> {
@@ -91,36 +92,35 @@ impl FileSystem for Taking {
 }
 
 /// Serves while a client does something.
-fn serve(server: &Server<Taking>, ask: impl FnOnce(&Peer)) {
+fn serve(server: &Server<Taking>, send: impl FnOnce(&Peer)) {
     let (peer, device) = Peer::new();
     thread::scope(|scope| {
         let thread = scope.spawn(|| server.serve(&device));
         // (else a test that fails would wait for the server)
-        let asked = catch_unwind(AssertUnwindSafe(|| ask(&peer)));
+        let result = catch_unwind(AssertUnwindSafe(|| send(&peer)));
         peer.send(&[]);
         thread.join().unwrap().unwrap();
-        asked.unwrap();
+        result.unwrap();
     });
 }
 
 #[test]
 fn a_call_that_is_taken_is_answered_later() {
-    let (files, taken) = Taking::new();
-    let server = Server::new(files);
-    let mut slot = Slot::new();
+    let (server, taken) = Taking::served();
+    let mut scratch = Scratch::new();
     serve(&server, |peer| {
         peer.send(&lock(33, 1, 0).done());
         // One thread serves, and the next request does not wait for the lock.
-        assert_eq!(peer.ask(&Request::new(17, 1).done()).len(), 96);
+        assert_eq!(peer.exchange(&Request::new(17, 1).done()).len(), 96);
         let (unique, call, client) = taken.recv().unwrap();
         assert_eq!(unique, 7);
         if let Call::Setlkw { node: 5, lock_owner: 44, to, .. } = call {
-            client.send(to.answer(&mut slot, Ok(())).reply()).unwrap();
+            client.send(to.answer(&mut scratch, Ok(())).reply()).unwrap();
         }
         assert_eq!(peer.receive(), reply(&[]));
         peer.send(&lock(33, 1, 0).done());
         let (_, call, client) = taken.recv().unwrap();
-        client.send(call.fail(&mut slot, &Errno::EINTR.into()).reply()).unwrap();
+        client.send(call.fail(&mut scratch, &Errno::EINTR.into()).reply()).unwrap();
         assert_eq!(peer.receive(), fault(4));
     });
     // After the end a reply is dropped.
@@ -131,14 +131,13 @@ fn a_call_that_is_taken_is_answered_later() {
         server.serve(&device).unwrap();
         taken.recv().unwrap()
     };
-    client.send(call.fail(&mut slot, &Errno::EINTR.into()).reply()).unwrap();
+    client.send(call.fail(&mut scratch, &Errno::EINTR.into()).reply()).unwrap();
 }
 
 #[test]
 fn data_follow_the_reply_to_a_read() {
-    let (files, taken) = Taking::new();
-    let server = Server::new(files);
-    let mut slot = Slot::new();
+    let (server, taken) = Taking::served();
+    let mut scratch = Scratch::new();
     serve(&server, |peer| {
         for (answered, data, expected, is_sent) in [
             (Ok(4), &b"data"[..], reply(b"data"), true),
@@ -150,7 +149,7 @@ fn data_follow_the_reply_to_a_read() {
         ] {
             peer.send(&reading(15, 9, 0, 10).done());
             if let (_, Call::Read { to, .. }, client) = taken.recv().unwrap() {
-                let sent = client.send_with(to.answer(&mut slot, answered).reply(), data);
+                let sent = client.send_with(to.answer(&mut scratch, answered).reply(), data);
                 assert_eq!(sent.is_ok(), is_sent);
             }
             assert_eq!(peer.receive(), expected);
@@ -160,40 +159,39 @@ fn data_follow_the_reply_to_a_read() {
 
 #[test]
 fn what_is_refused_later_is_answered() {
-    let (files, taken) = Taking::new();
-    let server = Server::new(files).catch_panics(true);
-    let mut slot = Slot::new();
+    let (server, taken) = Taking::served();
+    let server = server.catch_panics(true);
+    let mut scratch = Scratch::new();
     std::panic::set_hook(Box::new(|_| ()));
     serve(&server, |peer| {
         peer.send(&Request::new(1, 9).name("a").done());
         if let (_, Call::Lookup { to, .. }, client) = taken.recv().unwrap() {
             let entry = Entry { inode: 3, ..Entry::default() };
-            let told = to.answer(&mut slot, Ok(entry));
-            client.send(told.give_back(|node| panic!("{node}"))).unwrap();
+            let encoded = to.answer(&mut scratch, Ok(entry));
+            client.send(encoded.forget_lost(|node| panic!("{node}"))).unwrap();
         }
         assert_eq!(peer.receive()[..24], reply(&[3, 0, 0, 0, 0, 0, 0, 0].repeat(16))[..24]);
-        assert_eq!(peer.ask(&Request::new(17, 666).done()), fault(5));
+        assert_eq!(peer.exchange(&Request::new(17, 666).done()), fault(5));
     });
     let _ = std::panic::take_hook();
 }
 
 #[test]
-fn limits_and_further_options_are_agreed_on() {
-    let (files, _taken) = Taking::new();
-    let server = Server::new(files);
+fn limits_and_later_options_are_agreed_on() {
+    let (server, _taken) = Taking::served();
     serve(&server, |peer| {
-        let said = peer.ask(&init(0, u32::MAX, u32::MAX).done());
-        assert_eq!(said[16 + 16..16 + 18], [7, 0]);
+        let reply = peer.exchange(&init(0, u32::MAX, u32::MAX).done());
+        assert_eq!(reply[16 + 16..16 + 18], [7, 0]);
         let options = server.options();
         assert!(options.contains(FsOptions::HAS_RESEND | FsOptions::POSIX_LOCKS));
         assert!((options & FsOptions::HAS_EXPIRE_ONLY).is_empty());
-        let flags2 = u32::from_le_bytes(said[48..52].try_into().unwrap());
+        let flags2 = u32::from_le_bytes(reply[48..52].try_into().unwrap());
         assert_eq!(flags2, u32::try_from(options.bits() >> 32).unwrap());
     });
-    let (files, _taken) = Taking::new();
-    let server = Server::new(files).withhold(FsOptions::HAS_RESEND);
+    let (server, _taken) = Taking::served();
+    let server = server.withhold(FsOptions::HAS_RESEND);
     serve(&server, |peer| {
-        assert_eq!(peer.ask(&init(0, u32::MAX, u32::MAX).done()).len(), 80);
+        assert_eq!(peer.exchange(&init(0, u32::MAX, u32::MAX).done()).len(), 80);
         assert!(!server.options().contains(FsOptions::HAS_RESEND));
     });
 }
@@ -209,11 +207,10 @@ type Tell<'a> = &'a dyn Fn(&Notifier, &CStr) -> io::Result<()>;
 
 #[test]
 fn notices() {
-    let (files, _taken) = Taking::new();
-    let server = Server::new(files);
+    let (server, _taken) = Taking::served();
     let mut kept = None;
     serve(&server, |peer| {
-        peer.ask(&Request::new(40, 5).u64(8).u64(6 << 32).u32(1).u32(1).done());
+        peer.exchange(&Request::new(40, 5).u64(8).u64(6 << 32).u32(1).u32(1).done());
         let files = server.file_system();
         let notifier = files.notifier();
         let wake = files.polled.lock().unwrap().unwrap();
@@ -257,11 +254,10 @@ fn notices() {
 
 #[test]
 fn the_first_thread_begins() {
-    let (files, _taken) = Taking::new();
-    let (server, (peer, device)) = (Server::new(files), Peer::new());
+    let ((server, _taken), (peer, device)) = (Taking::served(), Peer::new());
     thread::scope(|scope| {
         let threads: Vec<_> = (0..3).map(|_| scope.spawn(|| server.serve(&device))).collect();
-        assert_eq!(peer.ask(&Request::new(17, 1).done()).len(), 96);
+        assert_eq!(peer.exchange(&Request::new(17, 1).done()).len(), 96);
         for _ in &threads {
             peer.send(&[]);
         }

@@ -4,8 +4,10 @@
 
 mod common;
 
-use common::{reading, session, Peer, Request};
-use nizwarf::{Asked, Call, Client, Entry, FileSystem, FsOptions, Item, NoEntries, Refusal, Server, Slot};
+use common::{call_of, reading, session, Peer, Request};
+use nizwarf::{
+    Call, Client, Decoded, DirItem, Entry, FileSystem, FsOptions, NoEntries, Refusal, Scratch, Server,
+};
 use std::alloc::{GlobalAlloc, Layout, System};
 use std::cell::Cell;
 use std::ffi::{c_void, CString};
@@ -57,7 +59,7 @@ unsafe extern "C" fn realloc(old: *mut c_void, size: usize) -> *mut c_void {
 /// The allocator of Rust, which does not fail.
 struct Rust;
 
-// SAFETY: it is the allocator of the system, which `malloc` here stands in front of.
+// SAFETY: it is the allocator of the system, by way of `malloc` here.
 unsafe impl GlobalAlloc for Rust {
     unsafe fn alloc(&self, layout: Layout) -> *mut u8 {
         if layout.align() <= 16 {
@@ -90,8 +92,8 @@ fn lookup() -> Vec<u8> {
     Request::new(1, 1).name("abc").done()
 }
 
-/// Has one allocation of a test refused after another, until none is left. The test gets its number, and returns its
-/// outcome, and whether an allocation was refused.
+/// Has one allocation of a test refused after another, until none is left. The test gets its number, and
+/// returns its outcome, and whether an allocation was refused.
 fn refuse_each(mut test: impl FnMut(u32) -> (Result<(), Refusal>, bool)) {
     let mut refusals = 0;
     for number in 1.. {
@@ -109,33 +111,30 @@ fn refuse_each(mut test: impl FnMut(u32) -> (Result<(), Refusal>, bool)) {
 /// What answers the call of a request: its field `to`.
 macro_rules! to_of {
     ($request:expr, $Call:ident) => {
-        match Slot::new().ask(&session(FsOptions::empty()), &[IoSlice::new($request)], 4096) {
-            Asked::Call(pending) => match pending.call {
-                Call::$Call { to, .. } => to,
-                other => panic!("{other:?}"),
-            },
-            Asked::Finished(done) => panic!("{done:?}"),
+        match call_of(&mut Scratch::new(), &[IoSlice::new($request)], 4096) {
+            Call::$Call { to, .. } => to,
+            other => panic!("{other:?}"),
         }
     };
 }
 
 #[test]
-fn asking() {
+fn decoding() {
     let bytes = lookup();
     let (first, second) = bytes.split_at(42);
     let slices = [IoSlice::new(first), IoSlice::new(second)];
     refuse_each(|number| {
-        let mut slot = Slot::new();
-        let asked = refuse(number, || match slot.ask(&session(FsOptions::empty()), &slices, 4096) {
-            Asked::Finished(done) => {
+        let mut scratch = Scratch::new();
+        let decoded = refuse(number, || match scratch.decode(&session(FsOptions::empty()), &slices, 4096) {
+            Decoded::Finished(done) => {
                 assert!(done.reply.is_empty());
                 done.outcome
             }
-            Asked::Call(_) => Ok(()),
+            Decoded::Call(_) => Ok(()),
         });
-        // The slot can be used again.
-        assert!(matches!(slot.ask(&session(FsOptions::empty()), &slices, 4096), Asked::Call(_)));
-        asked
+        // The scratch memory can be used again.
+        assert!(matches!(scratch.decode(&session(FsOptions::empty()), &slices, 4096), Decoded::Call(_)));
+        decoded
     });
 }
 
@@ -144,36 +143,36 @@ fn answering() {
     let bytes = lookup();
     refuse_each(|number| {
         let to = to_of!(&bytes, Lookup);
-        // A slot without memory.
-        let mut slot = Slot::new();
+        // Scratch memory that is still empty.
+        let mut scratch = Scratch::new();
         let entry = Entry { inode: 9, ..Entry::default() };
-        let (told, was_refused) = refuse(number, || to.answer(&mut slot, Ok(entry)));
-        let outcome = told.outcome;
-        let mut given_back = Vec::new();
-        let length = told.give_back(|node| given_back.push(node)).len();
+        let (encoded, was_refused) = refuse(number, || to.answer(&mut scratch, Ok(entry)));
+        let outcome = encoded.outcome;
+        let mut forgotten = Vec::new();
+        let length = encoded.forget_lost(|node| forgotten.push(node)).len();
         let expected = if outcome.is_ok() { (144, vec![]) } else { (0, vec![9]) };
-        assert_eq!((length, given_back), expected);
+        assert_eq!((length, forgotten), expected);
         (outcome, was_refused)
     });
 }
 
 #[test]
-fn a_directory_gives_all_back() {
+fn a_directory_forgets_all() {
     let bytes = reading(44, 1, 0, 4000).done();
     let names = ["a", "b"].map(|name| CString::new(name).unwrap());
     let items = [
-        Item::new(2, 1, 8, &names[0]).looked_up(&Ok(Entry { inode: 51, ..Entry::default() })),
-        Item::new(3, 2, 8, &names[1]).looked_up(&Ok(Entry { inode: 52, ..Entry::default() })),
+        DirItem::new(2, 1, 8, &names[0]).looked_up(&Ok(Entry { inode: 51, ..Entry::default() })),
+        DirItem::new(3, 2, 8, &names[1]).looked_up(&Ok(Entry { inode: 52, ..Entry::default() })),
     ];
     refuse_each(|number| {
         let to = to_of!(&bytes, Readdir);
-        let mut slot = Slot::new();
-        let (told, was_refused) = refuse(number, || to.answer(&mut slot, Ok(&items)));
-        let (outcome, taken) = (told.outcome, told.taken);
-        let mut given_back = Vec::new();
-        let mut answered = told.give_back(|node| given_back.push(node));
+        let mut scratch = Scratch::new();
+        let (encoded, was_refused) = refuse(number, || to.answer(&mut scratch, Ok(&items)));
+        let (outcome, entries) = (encoded.outcome, encoded.entries);
+        let mut forgotten = Vec::new();
+        let mut answered = encoded.forget_lost(|node| forgotten.push(node));
         let expected = if outcome.is_ok() { (16 + 2 * 160, 2, vec![]) } else { (0, 0, vec![51, 52]) };
-        assert_eq!((answered.len(), taken, given_back), expected);
+        assert_eq!((answered.len(), entries, forgotten), expected);
         assert_eq!(answered.bytes().len(), answered.len());
         (outcome, was_refused)
     });
@@ -208,9 +207,9 @@ fn what_has_no_reply_gets_none_later() {
             }
         };
         let to = to_of!(&forget, Forget);
-        let mut slot = Slot::new();
-        let (told, was_refused) = refuse(1, || to.done(&mut slot));
-        client.send(told.give_back(|_| ())).unwrap();
+        let mut scratch = Scratch::new();
+        let (encoded, was_refused) = refuse(1, || to.done(&mut scratch));
+        client.send(encoded.forget_lost(|_| ())).unwrap();
         let received = theirs.0.recv(&mut [0; 64]);
         theirs.send(&[]); // it ends by this
         (was_refused, received)

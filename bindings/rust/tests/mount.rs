@@ -20,7 +20,7 @@ use std::sync::atomic::{AtomicU32, AtomicUsize, Ordering};
 use std::sync::{Arc, Mutex};
 use std::time::Duration;
 
-/// What the file system of a mount knows.
+/// The state of the file system of a mount.
 #[derive(Default)]
 struct State {
     text: Mutex<Vec<u8>>,
@@ -53,7 +53,7 @@ impl FileSystem for Odd {
     type Handle = u64;
     type DirIter = NoEntries;
 
-    /// It wants what it is offered, except caches and what it has no method for.
+    /// Wants only that the file system applies the umask.
     fn init(&self, capable: FsOptions) -> io::Result<FsOptions> {
         Ok(capable & FsOptions::DONT_MASK)
     }
@@ -144,17 +144,17 @@ extern "C" {
     fn listxattr(path: *const c_char, to: *mut c_char, size: usize) -> isize;
 }
 
-/// The length of an attribute that is asked for with a size, or the number of the error.
+/// Returns the length of an attribute that is requested with a size, or the number of the error.
 fn attribute(path: &Path, name: &str, size: usize) -> Result<usize, i32> {
     let path = CString::new(path.as_os_str().as_bytes()).unwrap();
     let name_of = CString::new(name).unwrap();
-    let mut room = vec![0_u8; size];
-    // SAFETY: the strings end with a NUL, and the room has this size.
+    let mut buffer = vec![0_u8; size];
+    // SAFETY: the strings end with a NUL, and the buffer has this size.
     let len = unsafe {
         if name.is_empty() {
-            listxattr(path.as_ptr(), room.as_mut_ptr().cast(), size)
+            listxattr(path.as_ptr(), buffer.as_mut_ptr().cast(), size)
         } else {
-            getxattr(path.as_ptr(), name_of.as_ptr(), room.as_mut_ptr().cast(), size)
+            getxattr(path.as_ptr(), name_of.as_ptr(), buffer.as_mut_ptr().cast(), size)
         }
     };
     usize::try_from(len).map_err(|_| io::Error::last_os_error().raw_os_error().unwrap())

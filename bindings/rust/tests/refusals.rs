@@ -3,16 +3,18 @@
 mod common;
 
 use common::{fault, padded, reading, session, words, Request};
-use nizwarf::{Asked, FsOptions, Refusal, Slot};
+use nizwarf::{Decoded, FsOptions, Refusal, Scratch};
 use std::io::IoSlice;
 
 /// The outcome and the reply of a request that needs no call, and the request that it interrupts.
-fn finished(options: FsOptions, request: &[u8], room: usize) -> (Result<(), Refusal>, Vec<u8>, Option<u64>) {
-    let mut slot = Slot::new();
+fn finished(
+    options: FsOptions, request: &[u8], reply_size: usize,
+) -> (Result<(), Refusal>, Vec<u8>, Option<u64>) {
+    let mut scratch = Scratch::new();
     let slices = [IoSlice::new(request)];
-    match slot.ask(&session(options), &slices, room) {
-        Asked::Call(pending) => panic!("{pending:?}"),
-        Asked::Finished(mut done) => {
+    match scratch.decode(&session(options), &slices, reply_size) {
+        Decoded::Call(pending) => panic!("{pending:?}"),
+        Decoded::Finished(mut done) => {
             let bytes = done.reply.bytes().to_vec();
             assert_eq!(done.reply.is_empty(), bytes.is_empty());
             assert_eq!(done.reply.len(), bytes.len());
@@ -27,7 +29,7 @@ fn each_refusal() {
     let setxattr = Request::new(21, 1).u32(6).u32(0).name("a").bytes(b"short");
     let mkdir = Request::new(9, 1).u32(0o755).u32(0).name("a");
     let none = FsOptions::empty();
-    for (options, request, room, refusal) in [
+    for (options, request, reply_size, refusal) in [
         (none, Vec::new(), 64, Refusal::DecodeMessage),
         (none, lookup.clone().done()[..39].to_vec(), 64, Refusal::DecodeMessage),
         (none, lookup.clone().name("a").long(43), 64, Refusal::DecodeMessage),
@@ -40,7 +42,7 @@ fn each_refusal() {
         (none, setxattr.done(), 64, Refusal::InvalidXattrSize),
         (FsOptions::SECURITY_CTX, mkdir.done(), 64, Refusal::MissingExtension),
     ] {
-        assert_eq!(finished(options, &request, room), (Err(refusal), Vec::new(), None));
+        assert_eq!(finished(options, &request, reply_size), (Err(refusal), Vec::new(), None));
     }
 }
 
@@ -66,16 +68,16 @@ fn what_needs_no_file_system() {
 }
 
 #[test]
-fn a_slot_is_used_again() {
-    let mut slot = Slot::default();
+fn scratch_memory_is_used_again() {
+    let mut scratch = Scratch::default();
     let long = Request::new(26, 0).bytes(&words(&[8, 0, 0, 0])).done();
     let short = Request::new(255, 1).done();
     for (request, len) in [(&long, 80), (&short, 16), (&long, 80)] {
         let slices = [IoSlice::new(&[]), IoSlice::new(request)];
-        match slot.ask(&session(FsOptions::empty()), &slices, 1 << 20) {
-            Asked::Finished(mut done) => assert_eq!(done.reply.bytes().len(), len),
-            Asked::Call(pending) => panic!("{pending:?}"),
+        match scratch.decode(&session(FsOptions::empty()), &slices, 1 << 20) {
+            Decoded::Finished(mut done) => assert_eq!(done.reply.bytes().len(), len),
+            Decoded::Call(pending) => panic!("{pending:?}"),
         }
     }
-    assert_eq!(format!("{slot:?}"), "Slot { .. }");
+    assert_eq!(format!("{scratch:?}"), "Scratch { .. }");
 }

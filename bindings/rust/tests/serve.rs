@@ -1,17 +1,17 @@
-//! Servers at a socket that keeps messages apart: what ends them, and what does not; and the options that they
-//! agree to.
+//! Servers at a socket that keeps messages apart: what ends them, and what does not; and the options that
+//! they agree to.
 
 mod common;
 
 use common::{fault, getattr, init, reply, Peer, Request};
-use nizwarf::{Attr, Context, Errno, FileSystem, FsOptions, NoEntries, Offers, Server, Slot};
+use nizwarf::{Attr, Context, Errno, Features, FileSystem, FsOptions, NoEntries, Scratch, Server};
 use std::io::{self, IoSlice, IoSliceMut};
 use std::panic::{catch_unwind, AssertUnwindSafe};
 use std::sync::atomic::{AtomicU64, AtomicUsize, Ordering};
 use std::thread;
 use std::time::Duration;
 
-/// A file system that counts its ends. What it wants of INIT is a field.
+/// A file system that counts its ends, and wants the options of a field.
 #[derive(Default)]
 struct Plain {
     want: FsOptions,
@@ -20,7 +20,7 @@ struct Plain {
     met: AtomicUsize,
 }
 
-/// A node whose attributes two threads have to ask for at once.
+/// A node whose attributes two threads must request at once.
 const MEETING: u64 = 5;
 /// One whose error has a kind, and no number.
 const NAMELESS: u64 = 6;
@@ -30,8 +30,8 @@ impl FileSystem for Plain {
     type Handle = u64;
     type DirIter = NoEntries;
 
-    fn offers(&self) -> Offers {
-        Offers::NOTIFY_REPLY
+    fn features(&self) -> Features {
+        Features::NOTIFY_REPLY
     }
 
     fn init(&self, capable: FsOptions) -> io::Result<FsOptions> {
@@ -75,15 +75,15 @@ fn a_refused_request_is_answered_and_the_last_thread_ends_the_session() {
     ];
     let (replies, before) = thread::scope(|scope| {
         let threads: Vec<_> = (0..2).map(|_| scope.spawn(|| server.serve(&device))).collect();
-        let mut replies = vec![client.ask(&init(0, u32::MAX, u32::MAX).done())];
+        let mut replies = vec![client.exchange(&init(0, u32::MAX, u32::MAX).done())];
         for request in &refused {
             client.send(request);
         }
         replies.extend((0..2).map(|_| client.receive()));
         // Both threads serve.
         client.send(&getattr(MEETING).done());
-        replies.extend([client.ask(&getattr(MEETING).done()), client.receive()]);
-        replies.push(client.ask(&getattr(NAMELESS).done()));
+        replies.extend([client.exchange(&getattr(MEETING).done()), client.receive()]);
+        replies.push(client.exchange(&getattr(NAMELESS).done()));
         // A read of no bytes is the end of one thread.
         client.send(&[]);
         while !threads.iter().any(thread::ScopedJoinHandle::is_finished) {
@@ -132,18 +132,19 @@ fn the_caller_of_a_panic_is_answered() {
     assert_eq!(client.receive(), fault(5));
 }
 
-/// Options of the reply to an INIT that offers all, and what the file system was told of.
+/// Returns the options in the reply to an INIT, and those of which the file system knows that the client is
+/// capable.
 fn agreed(server: &Server<Plain>, request: &Request) -> (FsOptions, FsOptions) {
-    let (mut room, bytes) = ([0; 128], request.clone().done());
+    let (mut buffer, bytes) = ([0; 128], request.clone().done());
     let (first, second) = bytes.split_at(50);
     let done = server.serve_one(
-        &mut Slot::new(),
+        &mut Scratch::new(),
         &[IoSlice::new(first), IoSlice::new(second)],
-        &mut [IoSliceMut::new(&mut room)],
+        &mut [IoSliceMut::new(&mut buffer)],
     );
     assert_eq!((done.len, done.outcome), (80, Ok(())));
-    assert_eq!(room[..16], reply(&[0; 64])[..16]);
-    let word = |at| u64::from(u32::from_le_bytes(room[at..at + 4].try_into().unwrap()));
+    assert_eq!(buffer[..16], reply(&[0; 64])[..16]);
+    let word = |at| u64::from(u32::from_le_bytes(buffer[at..at + 4].try_into().unwrap()));
     let agreed = FsOptions::from_bits_truncate(word(28) | word(48) << 32);
     assert_eq!(server.options(), agreed);
     let capable = server.file_system().capable.load(Ordering::Relaxed);
@@ -153,7 +154,7 @@ fn agreed(server: &Server<Plain>, request: &Request) -> (FsOptions, FsOptions) {
 #[test]
 fn options_that_only_some_serve_are_agreed_on_if_they_are_wanted() {
     let special = FsOptions::ATOMIC_O_TRUNC | FsOptions::ALLOW_IDMAP;
-    // What the protocol agrees to by itself.
+    // The options that the protocol agrees on without being wanted.
     let all = FsOptions::from_bits_truncate(0x104_4844_9829);
     let of = |want| Server::new(Plain { want, ..Plain::default() });
     for (want, expected) in [
@@ -163,11 +164,11 @@ fn options_that_only_some_serve_are_agreed_on_if_they_are_wanted() {
     ] {
         assert_eq!(agreed(&of(want), &init(0, u32::MAX, u32::MAX)), (expected, FsOptions::all()));
     }
-    // What is withheld is not offered, even if it is wanted.
+    // Options that are withheld are not agreed on, even if they are wanted.
     let withheld = FsOptions::PARALLEL_DIROPS | FsOptions::ALLOW_IDMAP;
     let (got, capable) = agreed(&of(special).withhold(withheld), &init(0, u32::MAX, u32::MAX));
     assert_eq!((got, capable), (all - withheld, FsOptions::all() - withheld));
-    // Without INIT_EXT the second half is none.
+    // Without INIT_EXT the second half is empty.
     let low = FsOptions::from_bits_truncate(u32::MAX.into());
     let (got, capable) = agreed(&of(special).withhold(FsOptions::INIT_EXT), &init(0, u32::MAX, u32::MAX));
     assert_eq!((got, capable), ((all & low) - FsOptions::INIT_EXT, low - FsOptions::INIT_EXT));

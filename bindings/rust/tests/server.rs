@@ -4,7 +4,7 @@ mod common;
 
 use common::diary::{each_call, entry, moves, Diary, Row};
 use common::{fault, record, reply, words, Request};
-use nizwarf::{FileSystem, FsOptions, NoEntries, Refusal, Served, Server, Session, Slot};
+use nizwarf::{FileSystem, FsOptions, NoEntries, Refusal, Scratch, Served, Server, Session};
 use std::fs::File;
 use std::io::{IoSlice, IoSliceMut};
 use std::panic::{catch_unwind, AssertUnwindSafe};
@@ -19,12 +19,14 @@ impl FileSystem for Nothing {
 }
 
 /// Serves a request, of which request and buffer are cut in two, and returns the reply.
-fn serve_in<F: FileSystem>(server: &Server<F>, request: &[u8], room: usize, cut: usize) -> (Served, Vec<u8>) {
-    let mut bytes = vec![0xaa; room];
-    let (first, second) = bytes.split_at_mut(cut.min(room));
+fn serve_in<F: FileSystem>(
+    server: &Server<F>, request: &[u8], reply_size: usize, cut: usize,
+) -> (Served, Vec<u8>) {
+    let mut bytes = vec![0xaa; reply_size];
+    let (first, second) = bytes.split_at_mut(cut.min(reply_size));
     let (one, other) = request.split_at(cut.min(request.len()));
     let done = server.serve_one(
-        &mut Slot::new(),
+        &mut Scratch::new(),
         &[IoSlice::new(one), IoSlice::new(other)],
         &mut [first, &mut [], second].map(IoSliceMut::new),
     );
@@ -41,15 +43,6 @@ fn serve<F: FileSystem>(server: &Server<F>, request: &Request) -> Vec<u8> {
 }
 
 #[test]
-fn each_call_reaches_its_method() {
-    let server = Server::new(Diary::default());
-    for row in each_call() {
-        assert_eq!(serve(&server, &row.request), row.reply, "{}", row.line);
-        assert_eq!(server.file_system().take(), [row.line]);
-    }
-}
-
-#[test]
 fn what_is_not_written_is_not_served() {
     let server = Server::new(Nothing);
     for row in each_call() {
@@ -59,7 +52,7 @@ fn what_is_not_written_is_not_served() {
 }
 
 #[test]
-fn cuttings_make_no_difference() {
+fn each_call_reaches_its_method_in_each_cutting() {
     let server = Server::new(Diary::default());
     for Row { request, line, reply, .. } in each_call() {
         let request = request.done();
@@ -72,7 +65,7 @@ fn cuttings_make_no_difference() {
 }
 
 #[test]
-fn what_the_client_does_not_get_is_given_back() {
+fn what_the_client_does_not_get_is_forgotten() {
     let server = Server::new(Diary::default());
     let lookup = Request::new(1, 1).name("a").done();
     let (done, _) = serve_in(&server, &lookup, 143, 20);
@@ -99,8 +92,8 @@ fn a_handle_that_the_client_does_not_get_is_released() {
         ),
     ] {
         let request = request.done();
-        for room in [0, 15, 16, 16 + len - 1] {
-            let (done, _) = serve_in(&server, &request, room, 20);
+        for reply_size in [0, 15, 16, 16 + len - 1] {
+            let (done, _) = serve_in(&server, &request, reply_size, 20);
             assert_eq!((done.outcome, done.len), (Err(Refusal::EncodeMessage), 0));
             assert_eq!(server.file_system().take(), lines);
         }
@@ -123,8 +116,8 @@ fn directories() {
     let server = Server::new(Diary::default());
     let records =
         [record(11, 1, 8, "."), record(12, 2, 8, ".."), record(13, 3, 8, "a"), record(14, 4, 8, "b")];
-    for (size, taken) in [(31, 0), (95, 2), (96, 3), (127, 3), (128, 4), (4000, 4)] {
-        let expected = reply(&records[..taken].concat());
+    for (size, entries) in [(31, 0), (95, 2), (96, 3), (127, 3), (128, 4), (4000, 4)] {
+        let expected = reply(&records[..entries].concat());
         assert_eq!(serve(&server, &moves(28, 1, size)), expected);
         assert_eq!(server.file_system().take(), [format!("readdir 5 1 {size} 9")]);
     }
@@ -146,11 +139,11 @@ fn directories_with_entries() {
         [entry(), record(14, 4, 8, "b")].concat(),
     ];
     // Each has 160 bytes. What does not fit is not looked up.
-    for (size, taken) in [(159, 0), (479, 2), (480, 3), (639, 3), (640, 4), (4000, 4)] {
-        assert_eq!(serve(&server, &moves(44, 1, size)), reply(&records[..taken].concat()));
+    for (size, entries) in [(159, 0), (479, 2), (480, 3), (639, 3), (640, 4), (4000, 4)] {
+        assert_eq!(serve(&server, &moves(44, 1, size)), reply(&records[..entries].concat()));
         let mut lines = vec![format!("readdir 5 1 {size} 9")];
         let lookups = ["lookup 5 a 1000 7", "lookup 5 b 1000 7"];
-        lines.extend(lookups[..taken.max(2) - 2].iter().map(|line| (*line).into()));
+        lines.extend(lookups[..entries.max(2) - 2].iter().map(|line| (*line).into()));
         assert_eq!(server.file_system().take(), lines);
     }
     // A lookup that fails ends the reading, and is the reply if it is the first.
@@ -240,7 +233,7 @@ fn options_stand_from_init_to_destroy() {
 }
 
 #[test]
-fn an_interrupt_is_told() {
+fn an_interrupt_is_reported() {
     let server = Server::new(Diary::default());
     let (done, _) = serve_in(&server, &Request::new(36, 0).u64(9).done(), 64, 0);
     assert_eq!(done, Served { len: 0, outcome: Ok(()), interrupts: Some(9) });
@@ -256,7 +249,7 @@ fn a_panic_is_a_fault_if_it_is_caught() {
     std::panic::set_hook(Box::new(|_| ()));
     let strict = Server::new(Diary::default());
     assert!(catch_unwind(AssertUnwindSafe(|| serve(&strict, &lookup))).is_err());
-    // The lookups of a listing in which one panics are given back.
+    // The lookups of a listing in which one panics are forgotten.
     let listing = moves(44, 4, 4000);
     assert!(catch_unwind(AssertUnwindSafe(|| serve(&strict, &listing))).is_err());
     let lines = ["readdir 5 4 4000 9", "lookup 5 a 1000 7", "forget 50 1"];

@@ -1,5 +1,5 @@
-//! One session on eight threads, each with its slot: each request is asked on one thread and answered on
-//! another, and the replies are those of a single thread.
+//! One session on eight threads, each with its scratch memory: each request is decoded on one thread and
+//! answered on another, and the replies are those of a single thread.
 //!
 //! It does without the test harness, and passes calls on by functions of `std` that are inlined: the thread
 //! sanitizer sees these even if `std` was not built with it.
@@ -7,7 +7,9 @@
 mod common;
 
 use common::{session, Request};
-use nizwarf::{Asked, Attr, Call, Context, Entry, FileSystem, FsOptions, NoEntries, Server, Slot, Told};
+use nizwarf::{
+    Attr, Call, Context, Decoded, Encoded, Entry, FileSystem, FsOptions, NoEntries, Scratch, Server,
+};
 use std::ffi::CStr;
 use std::io::{self, IoSlice, IoSliceMut};
 use std::sync::{Arc, Mutex};
@@ -18,7 +20,7 @@ const THREADS: usize = 8;
 const EACH: usize = 500;
 
 /// Answers a call later.
-type Later = Box<dyn for<'s> FnOnce(&'s mut Slot) -> Told<'s> + Send>;
+type Later = Box<dyn for<'s> FnOnce(&'s mut Scratch) -> Encoded<'s> + Send>;
 
 /// A call on its way to the thread that answers it.
 type Hand = Mutex<Option<Result<Later, Vec<u8>>>>;
@@ -49,51 +51,51 @@ fn entry(name: &CStr, node: u64) -> Entry {
     Entry { inode: node + name.to_bytes().len() as u64, ..Entry::default() }
 }
 
-/// Asks. Returns a function that answers, or the reply.
-fn ask(slot: &mut Slot, number: u64) -> Result<Later, Vec<u8>> {
+/// Decodes a request. Returns a function that answers, or the reply.
+fn decode(scratch: &mut Scratch, number: u64) -> Result<Later, Vec<u8>> {
     let bytes = request(number);
     let slices = [IoSlice::new(&bytes)];
-    match slot.ask(&session(FsOptions::empty()), &slices, 1024) {
-        Asked::Finished(mut done) => Err(done.reply.bytes().to_vec()),
-        Asked::Call(pending) => Ok(match pending.call {
+    match scratch.decode(&session(FsOptions::empty()), &slices, 1024) {
+        Decoded::Finished(mut done) => Err(done.reply.bytes().to_vec()),
+        Decoded::Call(pending) => Ok(match pending.call {
             Call::Lookup { parent, name, to } => {
                 let name = name.into_owned();
-                Box::new(move |slot| to.answer(slot, Ok(entry(&name, parent))))
+                Box::new(move |scratch| to.answer(scratch, Ok(entry(&name, parent))))
             }
             Call::Getattr { node, to, .. } => {
                 let attr = Attr { ino: node, ..Attr::default() };
-                Box::new(move |slot| to.answer(slot, Ok((attr, Duration::ZERO))))
+                Box::new(move |scratch| to.answer(scratch, Ok((attr, Duration::ZERO))))
             }
             Call::Readlink { node, to } => {
-                Box::new(move |slot| to.answer(slot, Ok(node.to_string().as_bytes())))
+                Box::new(move |scratch| to.answer(scratch, Ok(node.to_string().as_bytes())))
             }
-            Call::Forget { to, .. } => Box::new(move |slot| to.done(slot)),
+            Call::Forget { to, .. } => Box::new(move |scratch| to.done(scratch)),
             other => panic!("{other:?}"),
         }),
     }
 }
 
-fn answer(slot: &mut Slot, asked: Result<Later, Vec<u8>>) -> Vec<u8> {
-    match asked {
-        Ok(later) => later(slot).give_back(|node| panic!("{node}")).bytes().to_vec(),
+fn answer(scratch: &mut Scratch, decoded: Result<Later, Vec<u8>>) -> Vec<u8> {
+    match decoded {
+        Ok(later) => later(scratch).forget_lost(|node| panic!("{node}")).bytes().to_vec(),
         Err(reply) => reply,
     }
 }
 
-/// Asks every eighth request, and answers those that the next thread asks.
+/// Decodes every eighth request, and answers those that the next thread decodes.
 fn run(at: usize, hands: &[Hand]) -> Vec<(usize, Vec<u8>)> {
-    let mut slot = Slot::new();
+    let mut scratch = Scratch::new();
     let mut replies = Vec::new();
     for turn in 0..EACH {
-        let asked = turn * THREADS + at;
-        let mut result = Some(ask(&mut slot, asked as u64));
-        with(&hands[asked], |hand| {
+        let number = turn * THREADS + at;
+        let mut result = Some(decode(&mut scratch, number as u64));
+        with(&hands[number], |hand| {
             *hand = result.take();
             Some(())
         });
         let answered = turn * THREADS + (at + 1) % THREADS;
-        let asked = with(&hands[answered], Option::take);
-        replies.push((answered, answer(&mut slot, asked)));
+        let decoded = with(&hands[answered], Option::take);
+        replies.push((answered, answer(&mut scratch, decoded)));
     }
     replies
 }
@@ -110,11 +112,11 @@ fn on_threads<T: Send + 'static>(run: impl Fn(usize) -> Vec<T> + Send + Sync + '
 }
 
 fn requests_are_answered_on_other_threads() {
-    let mut slot = Slot::new();
+    let mut scratch = Scratch::new();
     let alone: Vec<_> = (0..(THREADS * EACH) as u64)
         .map(|number| {
-            let asked = ask(&mut slot, number);
-            answer(&mut slot, asked)
+            let decoded = decode(&mut scratch, number);
+            answer(&mut scratch, decoded)
         })
         .collect();
     assert_eq!(alone[3][..8], [16, 0, 0, 0, 218, 255, 255, 255]);
@@ -151,15 +153,15 @@ impl FileSystem for Plain {
 fn one_server_serves_all_threads() {
     let server = Server::new(Plain);
     let lengths = on_threads(move |at| {
-        let mut slot = Slot::new();
+        let mut scratch = Scratch::new();
         let serve = |number| {
-            let mut room = [0; 1024];
+            let mut buffer = [0; 1024];
             let bytes = request(number);
             let done =
-                server.serve_one(&mut slot, &[IoSlice::new(&bytes)], &mut [IoSliceMut::new(&mut room)]);
+                server.serve_one(&mut scratch, &[IoSlice::new(&bytes)], &mut [IoSliceMut::new(&mut buffer)]);
             assert_eq!(done.outcome, Ok(()));
-            let asked = ask(&mut slot, number);
-            assert_eq!(room[..done.len], answer(&mut slot, asked));
+            let decoded = decode(&mut scratch, number);
+            assert_eq!(buffer[..done.len], answer(&mut scratch, decoded));
             done.len
         };
         (at as u64..(THREADS * EACH) as u64).step_by(THREADS).map(serve).collect()

@@ -4,7 +4,7 @@ use Rattle.vfs_grammar.specs.Books.{KeepsBooks}
 use Rattle.vfs_grammar.specs.Turn.{Turn}
 use Rattle.vfs_grammar.specs.declared.limits.Limits.{Limits}
 use Rattle.laws_turns.proofs.InOrder.{AreEachTurns, keeps_books}
-use Rattle.door_ask.specs.Further.{What, Ordinary, Short, Row, Unnamed, what_of}
+use Rattle.codec_decode.specs.Further.{What, Ordinary, Short, Row, Unnamed, what_of}
 use Rattle.laws_flight.specs.OfferedTurns.{AreOffered, AreOfferedInOrder, FollowsOffered, OfferedTurn, all_seen, seen_of}
 
 -- what is seen of one turn, before what is seen of others

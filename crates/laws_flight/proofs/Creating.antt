@@ -15,18 +15,18 @@ use Rattle.vfs_grammar.specs.Records.{record_of, size_of}
 use Rattle.vfs_grammar.specs.declared.error.Error.{Error}
 use Rattle.vfs_grammar.specs.declared.limits.Limits.{Limits}
 use Rattle.vfs_files.specs.Calls.{Creations, Kind}
-use Rattle.door_calls.specs.Shapes.{shape_of}
-use Rattle.door_calls.specs.declared.call.CallData.{CallData}
-use Rattle.door_calls.specs.declared.call.kind.TheConstants as kind
-use Rattle.door_calls.specs.declared.call.number.TheConstants as number
-use Rattle.door_calls.specs.declared.data.AnswerData.{AnswerData}
-use Rattle.door_calls.specs.declared.data.ItemData.{ItemData}
-use Rattle.door_answer.specs.Answering.{Answers}
-use Rattle.door_answer.specs.Kinds.{kind_told}
-use Rattle.door_answer.specs.declared.answered.Answered.{Answered}
-use Rattle.door_ask.specs.Asked.{IsAsked, Tells}
-use Rattle.door_ask.specs.declared.asked.Asked.TheVariants as asked
-use Rattle.door_ask.proofs.WithOpcode.{opcode_is}
+use Rattle.codec_calls.specs.Shapes.{shape_of}
+use Rattle.codec_calls.specs.declared.call.CallData.{CallData}
+use Rattle.codec_calls.specs.declared.call.kind.TheConstants as kind
+use Rattle.codec_calls.specs.declared.call.number.TheConstants as number
+use Rattle.codec_calls.specs.declared.data.AnswerData.{AnswerData}
+use Rattle.codec_calls.specs.declared.data.ItemData.{ItemData}
+use Rattle.codec_encode.specs.Answering.{Answers}
+use Rattle.codec_encode.specs.Kinds.{kind_told}
+use Rattle.codec_encode.specs.declared.answered.Answered.{Answered}
+use Rattle.codec_decode.specs.Asked.{IsAsked, Tells}
+use Rattle.codec_decode.specs.declared.asked.Asked.TheVariants as asked
+use Rattle.codec_decode.proofs.WithOpcode.{opcode_is}
 use Rattle.laws_flight.specs.OneOfferedTurn.{named_tmpfile}
 use Rattle.laws_flight.specs.OfferedTurns.{as_create}
 use Rattle.laws_turns.proofs.Table.{form_shown, limit_shown}
@@ -34,7 +34,7 @@ use Rattle.laws_turns.proofs.Table.{form_shown, limit_shown}
 -- a call that is asked for has an answer of a CREATE's kind
 abbrev pub AsksCreate : Ask → Type 0
 AsksCreate (Ends reply) = Unit {0}
-AsksCreate (Asks echo call) = (shape_of call).answer ≡ kind.CREATED
+AsksCreate (Asks echo call) = (shape_of call).answer ≡ kind.CREATE
 AsksCreate (Lists echo l) = ⊥
 AsksCreate (WithMemory rest) = AsksCreate rest
 
@@ -63,7 +63,7 @@ module _ (limits : Limits) (options space : ℕ) where
 
 -- the call that is told of it has such an answer
 told_so : (q : List ℕ) (options interrupts room : ℕ) (writer after : Written) (told : CallData) (a : Ask) → AsksCreate a
-    → Tells ⊤ q options interrupts room a writer asked.Call after told → told.answer ≡ kind.CREATED
+    → Tells ⊤ q options interrupts room a writer asked.Call after told → told.answer ≡ kind.CREATE
 told_so q o n room writer after told (Ends reply) is t = absurd t
 told_so q o n room writer after told (Asks echo call) is t = ap (λ (c : CallData). c.answer) t.1.numbers ∙ is
 told_so q o n room writer after told (Lists echo l) is t = absurd is
@@ -71,7 +71,7 @@ told_so q o n room writer after told (WithMemory rest) is (inl t) = told_so q o 
 told_so q o n room writer after told (WithMemory rest) is (inr t) = absurd t.1
 
 pub told_created : (limits : Limits) (options : ℕ) (request : List ℕ) (writer after : Written) (told : CallData)
-    → IsAsked limits options (as_create request) writer asked.Call after told → told.answer ≡ kind.CREATED
+    → IsAsked limits options (as_create request) writer asked.Call after told → told.answer ≡ kind.CREATE
 told_created limits options request writer after told is =
     told_so _ _ _ _ writer after told (ask limits options (length writer.left) (as_create request))
     (asks_create limits options (length writer.left) (as_create request)
@@ -79,7 +79,7 @@ told_created limits options request writer after told is =
 
 -- what comes of the answer to it under another number comes of the answer to it
 pub renamed : (limits : Limits) (created : CallData) (a : AnswerData) (text : List ℕ) (items : List ItemData)
-    (old : Written) (came : Answered) (new : Written) → created.answer ≡ kind.CREATED
+    (old : Written) (came : Answered) (new : Written) → created.answer ≡ kind.CREATE
     → Answers limits (kind_told created.answer created.size) (named_tmpfile created) a text items old (Some came) new
     → Answers limits (kind_told created.answer created.size) created a text items old (Some came) new
 renamed limits created a text items old came new is x =

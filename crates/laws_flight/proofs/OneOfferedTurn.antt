@@ -9,25 +9,25 @@ use Rattle.vfs_grammar.specs.Reply.{reply_of}
 use Rattle.vfs_grammar.specs.Records.{record_of}
 use Rattle.vfs_grammar.specs.Turn.{node_answered}
 use Rattle.vfs_grammar.specs.declared.limits.Limits.{Limits}
-use Rattle.door_calls.specs.declared.call.CallData.{CallData}
-use Rattle.door_calls.specs.declared.call.kind.TheConstants as kind
-use Rattle.door_calls.specs.declared.call.number.TheConstants as number
-use Rattle.door_calls.specs.declared.data.AnswerData.{AnswerData}
-use Rattle.door_calls.specs.declared.data.ItemData.{ItemData}
-use Rattle.door_answer.specs.Answering.{Answers, IsAnswered, echo_told, options_told}
-use Rattle.door_answer.specs.Kinds.{kind_told}
-use Rattle.door_answer.specs.Said.{IsSaid}
-use Rattle.door_answer.specs.Told.{AnswersEachCall, AnswersEachListing}
-use Rattle.door_answer.specs.declared.answered.Answered.{Answered}
-use Rattle.door_answer.proofs.Telling.{each_call}
+use Rattle.codec_calls.specs.declared.call.CallData.{CallData}
+use Rattle.codec_calls.specs.declared.call.kind.TheConstants as kind
+use Rattle.codec_calls.specs.declared.call.number.TheConstants as number
+use Rattle.codec_calls.specs.declared.data.AnswerData.{AnswerData}
+use Rattle.codec_calls.specs.declared.data.ItemData.{ItemData}
+use Rattle.codec_encode.specs.Answering.{Answers, IsAnswered, echo_told, options_told}
+use Rattle.codec_encode.specs.Kinds.{kind_told}
+use Rattle.codec_encode.specs.Said.{IsSaid}
+use Rattle.codec_encode.specs.Told.{AnswersEachCall, AnswersEachListing}
+use Rattle.codec_encode.specs.declared.answered.Answered.{Answered}
+use Rattle.codec_encode.proofs.Telling.{each_call}
 use Rattle.laws_flight.proofs.OneTurn.{are_one_turn, came_back}
-use Rattle.door_answer.specs.Fitting.{IsFit, answer_offered}
-use Rattle.door_ask.specs.Further.{What, Ordinary, Short, Row, Unnamed, ioctl_told, lock_told, statx_told, told_under, what_of}
+use Rattle.codec_encode.specs.Fitting.{IsFit, answer_offered}
+use Rattle.codec_decode.specs.Further.{What, Ordinary, Short, Row, Unnamed, ioctl_told, lock_told, statx_told, told_under, what_of}
 use Rattle.laws_flight.specs.OneOfferedTurn.{AreOneOfferedTurn, HappenedOffered, IsToldOffered, named_tmpfile, offered_turn}
 use Rattle.laws_flight.specs.OfferedTurns.{FollowsOffered, as_create, row_kind}
 use Rattle.laws_flight.proofs.Creating.{renamed, told_created}
 use Rattle.laws_flight.proofs.Rows.{OfRow, OfEachRow, of_what}
-use Rattle.door_answer.proofs.Texts.{said_fits}
+use Rattle.codec_encode.proofs.Texts.{said_fits}
 
 -- ---- rows
 
@@ -72,7 +72,7 @@ RowTurns row =
 each_row : OfEachRow RowTurns
 each_row = record {
   getlk = λ h r options room limits a text items old came new following x long.
-      of_kind limits _ Texts _ text _ came _ (λ _. refl) (λ _. refl) (said_fits (told_under options room (lock_told number.GETLK kind.TEXT h r)) refl a text (old.left ++ following)) (x.1 following long);
+      of_kind limits _ Texts _ text _ came _ (λ _. refl) (λ _. refl) (said_fits (told_under options room (lock_told number.GETLK kind.BYTES h r)) refl a text (old.left ++ following)) (x.1 following long);
   setlk = λ h r options room limits a text items old came new following x long.
       of_kind limits _ Told _ text _ came _ (λ _. refl) (λ _. refl) (λ _ _. tt) (x.1 following long);
   setlkw = λ h r options room limits a text items old came new following x long.

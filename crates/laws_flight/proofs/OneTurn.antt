@@ -14,15 +14,15 @@ use Rattle.vfs_grammar.specs.Turn.{Turn, Follows, node_answered}
 use Rattle.vfs_grammar.specs.declared.limits.Limits.{Limits}
 use Rattle.vfs_grammar.specs.declared.error.Error.{Error}
 use Rattle.vfs_grammar.specs.declared.error.Error.TheVariants.{OutOfMemory}
-use Rattle.door_calls.specs.Shapes.{bit}
-use Rattle.door_calls.specs.declared.call.CallData.{CallData}
-use Rattle.door_calls.specs.declared.data.AnswerData.{AnswerData}
-use Rattle.door_calls.specs.declared.data.ItemData.{ItemData}
-use Rattle.door_answer.specs.Listing.{listing_told}
-use Rattle.door_answer.specs.Told.{TellsEcho, TellsOffer, TellsCall, CallIsAnswered, AnswersEachCall, ListingIsAnswered, AnswersEachListing}
-use Rattle.door_answer.specs.declared.answered.Answered.{Answered}
-use Rattle.door_ask.specs.Asked.{IsAsked, IsTold, Tells, told_of_listing, length_of_call}
-use Rattle.door_ask.specs.declared.asked.Asked.TheVariants as asked
+use Rattle.codec_calls.specs.Shapes.{bit}
+use Rattle.codec_calls.specs.declared.call.CallData.{CallData}
+use Rattle.codec_calls.specs.declared.data.AnswerData.{AnswerData}
+use Rattle.codec_calls.specs.declared.data.ItemData.{ItemData}
+use Rattle.codec_encode.specs.Listing.{listing_told}
+use Rattle.codec_encode.specs.Told.{TellsEcho, TellsOffer, TellsCall, CallIsAnswered, AnswersEachCall, ListingIsAnswered, AnswersEachListing}
+use Rattle.codec_encode.specs.declared.answered.Answered.{Answered}
+use Rattle.codec_decode.specs.Asked.{IsAsked, IsTold, Tells, told_of_listing, length_of_call}
+use Rattle.codec_decode.specs.declared.asked.Asked.TheVariants as asked
 use Rattle.laws_flight.specs.OneTurn.{HappenedBetween, IsAnsweredTurn, AreOneTurn, AreFinishedTurns}
 use Rattle.laws_flight.proofs.Asking.{IsUsual, is_usual}
 

@@ -16,11 +16,11 @@ use Rattle.vfs_grammar.specs.Limits.{max_len}
 use Rattle.vfs_grammar.specs.Records.{record_of}
 use Rattle.vfs_grammar.specs.declared.error.Error.{Error}
 use Rattle.vfs_grammar.specs.declared.limits.Limits.{Limits}
-use Rattle.door_calls.specs.declared.call.CallData.{CallData}
-use Rattle.door_calls.specs.declared.call.kind.TheConstants as kind
-use Rattle.door_calls.specs.declared.call.number.TheConstants as number
-use Rattle.door_ask.specs.declared.offers.TheConstants as row
-use Rattle.door_ask.specs.Further.{What, Ordinary, Short, Row, Unnamed, asks_row, bmap_told, copy_told, if_whole, ioctl_place, ioctl_told, lock_told, notify_place, notify_told, or_short, poll_told, row_of, statx_told, what_after}
+use Rattle.codec_calls.specs.declared.call.CallData.{CallData}
+use Rattle.codec_calls.specs.declared.call.kind.TheConstants as kind
+use Rattle.codec_calls.specs.declared.call.number.TheConstants as number
+use Rattle.codec_decode.specs.declared.offers.TheConstants as row
+use Rattle.codec_decode.specs.Further.{What, Ordinary, Short, Row, Unnamed, asks_row, bmap_told, copy_told, if_whole, ioctl_place, ioctl_told, lock_told, notify_place, notify_told, or_short, poll_told, row_of, statx_told, what_after}
 
 module _ (P : CallData → Type 0) where
   -- it holds of the call that a request asks for, where it asks for one of a row
@@ -38,9 +38,9 @@ module _ (P : CallData → Type 0) where
 
   -- what is to be shown for it to hold of each row
   pub record OfEachRow : Type 0 where
-    pub getlk : (h : InHeader) (r : LkIn) → P (lock_told number.GETLK kind.TEXT h r)
-    pub setlk : (h : InHeader) (r : LkIn) → P (lock_told number.SETLK kind.DONE h r)
-    pub setlkw : (h : InHeader) (r : LkIn) → P (lock_told number.SETLKW kind.DONE h r)
+    pub getlk : (h : InHeader) (r : LkIn) → P (lock_told number.GETLK kind.BYTES h r)
+    pub setlk : (h : InHeader) (r : LkIn) → P (lock_told number.SETLK kind.STATUS h r)
+    pub setlkw : (h : InHeader) (r : LkIn) → P (lock_told number.SETLKW kind.STATUS h r)
     pub bmap : (h : InHeader) (r : BmapIn) → P (bmap_told h r)
     pub ioctl : (h : InHeader) (r : IoctlIn) → P (ioctl_told h r)
     pub poll : (h : InHeader) (r : PollIn) → P (poll_told h r)
@@ -50,9 +50,9 @@ module _ (P : CallData → Type 0) where
 
   module _ (each : OfEachRow) where
     of_row : (h : InHeader) (rest : List ℕ) (len : ℕ) (getlk setlk setlkw bmap ioctl poll notify tmpfile statx copy : Bool)
-        → OfRow (if getlk then or_short (record_of lk_in rest) (λ r. Row (lock_told number.GETLK kind.TEXT h r))
-        else if setlk then or_short (record_of lk_in rest) (λ r. Row (lock_told number.SETLK kind.DONE h r))
-        else if setlkw then or_short (record_of lk_in rest) (λ r. Row (lock_told number.SETLKW kind.DONE h r))
+        → OfRow (if getlk then or_short (record_of lk_in rest) (λ r. Row (lock_told number.GETLK kind.BYTES h r))
+        else if setlk then or_short (record_of lk_in rest) (λ r. Row (lock_told number.SETLK kind.STATUS h r))
+        else if setlkw then or_short (record_of lk_in rest) (λ r. Row (lock_told number.SETLKW kind.STATUS h r))
         else if bmap then or_short (record_of bmap_in rest) (λ r. Row (bmap_told h r))
         else if ioctl then or_short (record_of ioctl_in rest) (λ r. if_whole (ioctl_place + r.in_size) len (ioctl_told h r))
         else if poll then or_short (record_of poll_in rest) (λ r. Row (poll_told h r))
@@ -62,11 +62,11 @@ module _ (P : CallData → Type 0) where
         else if copy then or_short (record_of copyfilerange_in rest) (λ r. Row (copy_told h r))
         else Ordinary)
     of_row h rest len true _ _ _ _ _ _ _ _ _ =
-        by_record (record_of lk_in rest) (λ r. Row (lock_told number.GETLK kind.TEXT h r)) (each.getlk h)
+        by_record (record_of lk_in rest) (λ r. Row (lock_told number.GETLK kind.BYTES h r)) (each.getlk h)
     of_row h rest len false true _ _ _ _ _ _ _ _ =
-        by_record (record_of lk_in rest) (λ r. Row (lock_told number.SETLK kind.DONE h r)) (each.setlk h)
+        by_record (record_of lk_in rest) (λ r. Row (lock_told number.SETLK kind.STATUS h r)) (each.setlk h)
     of_row h rest len false false true _ _ _ _ _ _ _ =
-        by_record (record_of lk_in rest) (λ r. Row (lock_told number.SETLKW kind.DONE h r)) (each.setlkw h)
+        by_record (record_of lk_in rest) (λ r. Row (lock_told number.SETLKW kind.STATUS h r)) (each.setlkw h)
     of_row h rest len false false false true _ _ _ _ _ _ =
         by_record (record_of bmap_in rest) (λ r. Row (bmap_told h r)) (each.bmap h)
     of_row h rest len false false false false true _ _ _ _ _ =

@@ -21,14 +21,14 @@ use Rattle.vfs_grammar.specs.Records.{size_of}
 use Rattle.vfs_grammar.specs.Reply.{Echo}
 use Rattle.vfs_grammar.specs.declared.error.Error.TheVariants.{DecodeMessage}
 use Rattle.vfs_grammar.specs.declared.limits.Limits.{Limits}
-use Rattle.door_calls.specs.Shapes.{bit, bit_of, context_bit, context_name_of, context_value_of, no_range, shape_of, unplaced}
-use Rattle.door_calls.specs.declared.call.CallData.{CallData}
-use Rattle.door_calls.specs.declared.call.Range.{Range}
-use Rattle.door_calls.specs.declared.call.has.TheConstants.{HANDLE, OWNER, CONTEXT, GROUP, KILL_PRIV, DELAYED, FLUSHES, FLOCK_RELEASE}
-use Rattle.door_answer.specs.Told.{TellsEcho, TellsOffer, TellsCall}
-use Rattle.door_ask.specs.Asked.{IsAsked, IsTold, IsNameIn, IsContextPlaced, Stand, bytes_in, long_range, of_context, with_its_ranges, without_places, told_of, interrupted_by, interrupted_or_none, unique_or_none}
-use Rattle.door_ask.specs.Asked.{Tells as TellsWith}
-use Rattle.door_ask.specs.declared.asked.Asked.TheVariants as asked
+use Rattle.codec_calls.specs.Shapes.{bit, bit_of, context_bit, context_name_of, context_value_of, no_range, shape_of, unplaced}
+use Rattle.codec_calls.specs.declared.call.CallData.{CallData}
+use Rattle.codec_calls.specs.declared.call.Range.{Range}
+use Rattle.codec_calls.specs.declared.call.has.TheConstants as has
+use Rattle.codec_encode.specs.Told.{TellsEcho, TellsOffer, TellsCall}
+use Rattle.codec_decode.specs.Asked.{IsAsked, IsTold, IsNameIn, IsContextPlaced, Stand, bytes_in, long_range, of_context, with_its_ranges, without_places, told_of, interrupted_by, interrupted_or_none, unique_or_none}
+use Rattle.codec_decode.specs.Asked.{Tells as TellsWith}
+use Rattle.codec_decode.specs.declared.asked.Asked.TheVariants as asked
 use Rattle.laws_flight.specs.Table.{TellsByTable, TellsAsked, TellsContext, AreOf, of_request, interrupted}
 
 -- data with the places of others, and with what these were asked with
@@ -67,17 +67,17 @@ bit_same : (o : Option ℕ) (b : ℕ) → bit_of o b ≡ bit (is_some o) b
 bit_same None b = refl
 bit_same (Some n) b = refl
 
-context_same : (o : Option (List ℕ × List ℕ)) → context_bit o ≡ bit (is_some o) CONTEXT
+context_same : (o : Option (List ℕ × List ℕ)) → context_bit o ≡ bit (is_some o) has.CONTEXT
 context_same None = refl
 context_same (Some context) = refl
 
 -- the bits of extensions
 bits : (ext : ExtensionValues)
-    → context_bit ext.context + bit_of ext.group GROUP
-    ≡ bit (is_some ext.context) CONTEXT + bit (is_some ext.group) GROUP
+    → context_bit ext.context + bit_of ext.group has.GROUP
+    ≡ bit (is_some ext.context) has.CONTEXT + bit (is_some ext.group) has.GROUP
 bits ext =
-    ap (λ n. n + bit_of ext.group GROUP) (context_same ext.context)
-    ∙ ap (λ n. bit (is_some ext.context) CONTEXT + n) (bit_same ext.group GROUP)
+    ap (λ n. n + bit_of ext.group has.GROUP) (context_same ext.context)
+    ∙ ap (λ n. bit (is_some ext.context) has.CONTEXT + n) (bit_same ext.group has.GROUP)
 
 -- a context is where the data say, or they say none
 context_told : (q : List ℕ) (told : CallData) (context : Option (List ℕ × List ℕ))
@@ -98,17 +98,17 @@ module _ (q : List ℕ) (options room : ℕ) (echo : Echo) (told : CallData) whe
   row (call.Forget ctx inode count) is =
       exact (call.Forget ctx inode count) is
   row (call.Getattr ctx inode handle) is =
-      own_has told _ _ (exact (call.Getattr ctx inode handle) is) (bit_same handle HANDLE)
+      own_has told _ _ (exact (call.Getattr ctx inode handle) is) (bit_same handle has.HANDLE)
   row (call.Setattr ctx inode attr handle valid) is =
-      own_has told _ _ (exact (call.Setattr ctx inode attr handle valid) is) (bit_same handle HANDLE)
+      own_has told _ _ (exact (call.Setattr ctx inode attr handle valid) is) (bit_same handle has.HANDLE)
   row (call.Readlink ctx inode) is =
       exact (call.Readlink ctx inode) is
   row (call.Symlink ctx text parent name ext) is =
-      (((own_has told _ _ (own_context told _ (own_other told _ (own_name told _ (exact (call.Symlink ctx text parent name ext) is)))) (ap (λ n. bit false KILL_PRIV + n) (bits ext)), is.places.0), context_told q told ext.context (ap (λ (c : CallData). c.context_name) is.others) (ap (λ (c : CallData). c.context) is.others) is.places.2), is.places.1)
+      (((own_has told _ _ (own_context told _ (own_other told _ (own_name told _ (exact (call.Symlink ctx text parent name ext) is)))) (ap (λ n. bit false has.KILL_SUIDGID + n) (bits ext)), is.places.0), context_told q told ext.context (ap (λ (c : CallData). c.context_name) is.others) (ap (λ (c : CallData). c.context) is.others) is.places.2), is.places.1)
   row (call.Mknod ctx inode name mode rdev umask ext) is =
-      ((own_has told _ _ (own_context told _ (own_name told _ (exact (call.Mknod ctx inode name mode rdev umask ext) is))) (ap (λ n. bit false KILL_PRIV + n) (bits ext)), is.places.0), context_told q told ext.context (ap (λ (c : CallData). c.context_name) is.others) (ap (λ (c : CallData). c.context) is.others) is.places.1)
+      ((own_has told _ _ (own_context told _ (own_name told _ (exact (call.Mknod ctx inode name mode rdev umask ext) is))) (ap (λ n. bit false has.KILL_SUIDGID + n) (bits ext)), is.places.0), context_told q told ext.context (ap (λ (c : CallData). c.context_name) is.others) (ap (λ (c : CallData). c.context) is.others) is.places.1)
   row (call.Mkdir ctx parent name mode umask ext) is =
-      ((own_has told _ _ (own_context told _ (own_name told _ (exact (call.Mkdir ctx parent name mode umask ext) is))) (ap (λ n. bit false KILL_PRIV + n) (bits ext)), is.places.0), context_told q told ext.context (ap (λ (c : CallData). c.context_name) is.others) (ap (λ (c : CallData). c.context) is.others) is.places.1)
+      ((own_has told _ _ (own_context told _ (own_name told _ (exact (call.Mkdir ctx parent name mode umask ext) is))) (ap (λ n. bit false has.KILL_SUIDGID + n) (bits ext)), is.places.0), context_told q told ext.context (ap (λ (c : CallData). c.context_name) is.others) (ap (λ (c : CallData). c.context) is.others) is.places.1)
   row (call.Unlink ctx parent name) is =
       (own_name told _ (exact (call.Unlink ctx parent name) is), is.places)
   row (call.Rmdir ctx parent name) is =
@@ -120,13 +120,13 @@ module _ (q : List ℕ) (options room : ℕ) (echo : Echo) (told : CallData) whe
   row (call.Open ctx inode kill_priv flags) is =
       exact (call.Open ctx inode kill_priv flags) is
   row (call.Read ctx inode handle space size offset owner flags) is =
-      own_has told _ _ (exact (call.Read ctx inode handle space size offset owner flags) is) (bit_same owner OWNER)
+      own_has told _ _ (exact (call.Read ctx inode handle space size offset owner flags) is) (bit_same owner has.OWNER)
   row (call.Write ctx inode handle bytes size offset owner delayed kill_priv flags) is =
-      (own_has told _ _ (own_data told _ (exact (call.Write ctx inode handle bytes size offset owner delayed kill_priv flags) is)) (ap (λ n. n + (bit delayed DELAYED + bit kill_priv KILL_PRIV)) (bit_same owner OWNER)), is.places)
+      (own_has told _ _ (own_data told _ (exact (call.Write ctx inode handle bytes size offset owner delayed kill_priv flags) is)) (ap (λ n. n + (bit delayed has.WRITE_CACHE + bit kill_priv has.KILL_SUIDGID)) (bit_same owner has.OWNER)), is.places)
   row (call.Statfs ctx inode) is =
       exact (call.Statfs ctx inode) is
   row (call.Release ctx inode flags handle flush flock_release owner) is =
-      own_has told _ _ (exact (call.Release ctx inode flags handle flush flock_release owner) is) (ap (λ n. n + (bit flush FLUSHES + bit flock_release FLOCK_RELEASE)) (bit_same owner OWNER))
+      own_has told _ _ (exact (call.Release ctx inode flags handle flush flock_release owner) is) (ap (λ n. n + (bit flush has.RELEASE_FLUSH + bit flock_release has.RELEASE_FLOCK_UNLOCK)) (bit_same owner has.OWNER))
   row (call.Fsync ctx inode datasync handle) is =
       exact (call.Fsync ctx inode datasync handle) is
   row (call.Setxattr ctx inode name value flags extra) is =
@@ -158,7 +158,7 @@ module _ (q : List ℕ) (options room : ℕ) (echo : Echo) (told : CallData) whe
   row (call.Access ctx inode mask) is =
       exact (call.Access ctx inode mask) is
   row (call.Create ctx parent name mode kill_priv flags umask ext) is =
-      ((own_has told _ _ (own_context told _ (own_name told _ (exact (call.Create ctx parent name mode kill_priv flags umask ext) is))) (ap (λ n. bit kill_priv KILL_PRIV + n) (bits ext)), is.places.0), context_told q told ext.context (ap (λ (c : CallData). c.context_name) is.others) (ap (λ (c : CallData). c.context) is.others) is.places.1)
+      ((own_has told _ _ (own_context told _ (own_name told _ (exact (call.Create ctx parent name mode kill_priv flags umask ext) is))) (ap (λ n. bit kill_priv has.KILL_SUIDGID + n) (bits ext)), is.places.0), context_told q told ext.context (ap (λ (c : CallData). c.context_name) is.others) (ap (λ (c : CallData). c.context) is.others) is.places.1)
   row call.Bmap is =
       exact call.Bmap is
   row call.Destroy is =
@@ -368,12 +368,12 @@ module _ (q : List ℕ) (echo : Echo) (told : CallData) where
     others = h ∙ sym (ap (with_its_ranges (call.Forget ctx inode count)) h);
   }
   is_told (call.Getattr ctx inode handle) h = record {
-    numbers = fit_has told _ _ (ap without_places h) (sym (bit_same handle HANDLE));
+    numbers = fit_has told _ _ (ap without_places h) (sym (bit_same handle has.HANDLE));
     places = tt;
     others = h ∙ sym (ap (with_its_ranges (call.Getattr ctx inode handle)) h);
   }
   is_told (call.Setattr ctx inode attr handle valid) h = record {
-    numbers = fit_has told _ _ (ap without_places h) (sym (bit_same handle HANDLE));
+    numbers = fit_has told _ _ (ap without_places h) (sym (bit_same handle has.HANDLE));
     places = tt;
     others = h ∙ sym (ap (with_its_ranges (call.Setattr ctx inode attr handle valid)) h);
   }
@@ -383,17 +383,17 @@ module _ (q : List ℕ) (echo : Echo) (told : CallData) where
     others = h ∙ sym (ap (with_its_ranges (call.Readlink ctx inode)) h);
   }
   is_told (call.Symlink ctx text parent name ext) h = record {
-    numbers = fit_name told _ (fit_other told _ (fit_context_name told _ (fit_context told _ (fit_has told _ _ (ap without_places h.0.0.0) (sym (ap (λ n. bit false KILL_PRIV + n) (bits ext)))) (context_ranges q told ext.context h.0.1).1) (context_ranges q told ext.context h.0.1).0) (name_range q told.other_name text h.1)) (name_range q told.name name h.0.0.1);
+    numbers = fit_name told _ (fit_other told _ (fit_context_name told _ (fit_context told _ (fit_has told _ _ (ap without_places h.0.0.0) (sym (ap (λ n. bit false has.KILL_SUIDGID + n) (bits ext)))) (context_ranges q told ext.context h.0.1).1) (context_ranges q told ext.context h.0.1).0) (name_range q told.other_name text h.1)) (name_range q told.name name h.0.0.1);
     places = (h.0.0.1, h.1, context_placed q told ext.context h.0.1);
     others = others_of told told.other_name ext.context refl (ap (λ (c : CallData). c.data) h.0.0.0) (context_others q told ext.context h.0.1);
   }
   is_told (call.Mknod ctx inode name mode rdev umask ext) h = record {
-    numbers = fit_name told _ (fit_context_name told _ (fit_context told _ (fit_has told _ _ (ap without_places h.0.0) (sym (ap (λ n. bit false KILL_PRIV + n) (bits ext)))) (context_ranges q told ext.context h.1).1) (context_ranges q told ext.context h.1).0) (name_range q told.name name h.0.1);
+    numbers = fit_name told _ (fit_context_name told _ (fit_context told _ (fit_has told _ _ (ap without_places h.0.0) (sym (ap (λ n. bit false has.KILL_SUIDGID + n) (bits ext)))) (context_ranges q told ext.context h.1).1) (context_ranges q told ext.context h.1).0) (name_range q told.name name h.0.1);
     places = (h.0.1, context_placed q told ext.context h.1);
     others = others_of told no_range ext.context (ap (λ (c : CallData). c.other_name) h.0.0) (ap (λ (c : CallData). c.data) h.0.0) (context_others q told ext.context h.1);
   }
   is_told (call.Mkdir ctx parent name mode umask ext) h = record {
-    numbers = fit_name told _ (fit_context_name told _ (fit_context told _ (fit_has told _ _ (ap without_places h.0.0) (sym (ap (λ n. bit false KILL_PRIV + n) (bits ext)))) (context_ranges q told ext.context h.1).1) (context_ranges q told ext.context h.1).0) (name_range q told.name name h.0.1);
+    numbers = fit_name told _ (fit_context_name told _ (fit_context told _ (fit_has told _ _ (ap without_places h.0.0) (sym (ap (λ n. bit false has.KILL_SUIDGID + n) (bits ext)))) (context_ranges q told ext.context h.1).1) (context_ranges q told ext.context h.1).0) (name_range q told.name name h.0.1);
     places = (h.0.1, context_placed q told ext.context h.1);
     others = others_of told no_range ext.context (ap (λ (c : CallData). c.other_name) h.0.0) (ap (λ (c : CallData). c.data) h.0.0) (context_others q told ext.context h.1);
   }
@@ -423,12 +423,12 @@ module _ (q : List ℕ) (echo : Echo) (told : CallData) where
     others = h ∙ sym (ap (with_its_ranges (call.Open ctx inode kill_priv flags)) h);
   }
   is_told (call.Read ctx inode handle space size offset owner flags) h = record {
-    numbers = fit_has told _ _ (ap without_places h) (sym (bit_same owner OWNER));
+    numbers = fit_has told _ _ (ap without_places h) (sym (bit_same owner has.OWNER));
     places = tt;
     others = h ∙ sym (ap (with_its_ranges (call.Read ctx inode handle space size offset owner flags)) h);
   }
   is_told (call.Write ctx inode handle bytes size offset owner delayed kill_priv flags) h = record {
-    numbers = fit_data told _ (fit_has told _ _ (ap without_places h.0) (sym (ap (λ n. n + (bit delayed DELAYED + bit kill_priv KILL_PRIV)) (bit_same owner OWNER)))) (value_range q told.data bytes h.1);
+    numbers = fit_data told _ (fit_has told _ _ (ap without_places h.0) (sym (ap (λ n. n + (bit delayed has.WRITE_CACHE + bit kill_priv has.KILL_SUIDGID)) (bit_same owner has.OWNER)))) (value_range q told.data bytes h.1);
     places = h.1;
     others = h.0 ∙ sym (ap (with_its_ranges (call.Write ctx inode handle bytes size offset owner delayed kill_priv flags)) h.0);
   }
@@ -438,7 +438,7 @@ module _ (q : List ℕ) (echo : Echo) (told : CallData) where
     others = h ∙ sym (ap (with_its_ranges (call.Statfs ctx inode)) h);
   }
   is_told (call.Release ctx inode flags handle flush flock_release owner) h = record {
-    numbers = fit_has told _ _ (ap without_places h) (sym (ap (λ n. n + (bit flush FLUSHES + bit flock_release FLOCK_RELEASE)) (bit_same owner OWNER)));
+    numbers = fit_has told _ _ (ap without_places h) (sym (ap (λ n. n + (bit flush has.RELEASE_FLUSH + bit flock_release has.RELEASE_FLOCK_UNLOCK)) (bit_same owner has.OWNER)));
     places = tt;
     others = h ∙ sym (ap (with_its_ranges (call.Release ctx inode flags handle flush flock_release owner)) h);
   }
@@ -518,7 +518,7 @@ module _ (q : List ℕ) (echo : Echo) (told : CallData) where
     others = h ∙ sym (ap (with_its_ranges (call.Access ctx inode mask)) h);
   }
   is_told (call.Create ctx parent name mode kill_priv flags umask ext) h = record {
-    numbers = fit_name told _ (fit_context_name told _ (fit_context told _ (fit_has told _ _ (ap without_places h.0.0) (sym (ap (λ n. bit kill_priv KILL_PRIV + n) (bits ext)))) (context_ranges q told ext.context h.1).1) (context_ranges q told ext.context h.1).0) (name_range q told.name name h.0.1);
+    numbers = fit_name told _ (fit_context_name told _ (fit_context told _ (fit_has told _ _ (ap without_places h.0.0) (sym (ap (λ n. bit kill_priv has.KILL_SUIDGID + n) (bits ext)))) (context_ranges q told ext.context h.1).1) (context_ranges q told ext.context h.1).0) (name_range q told.name name h.0.1);
     places = (h.0.1, context_placed q told ext.context h.1);
     others = others_of told no_range ext.context (ap (λ (c : CallData). c.other_name) h.0.0) (ap (λ (c : CallData). c.data) h.0.0) (context_others q told ext.context h.1);
   }

@@ -11,11 +11,11 @@ use Rattle.vfs_wire.specs.declared.attributes.SetattrIn.{SetattrIn}
 use Rattle.vfs_grammar.specs.Ask.{if_set}
 use Rattle.vfs_grammar.specs.Forms.{pairs_of}
 use Rattle.vfs_grammar.specs.Reply.{Echo}
-use Rattle.door_calls.specs.Shapes.{bit, bit_of, context_bit}
-use Rattle.door_calls.specs.declared.call.CallData.{CallData}
-use Rattle.door_calls.specs.declared.call.SetattrData.{SetattrData}
-use Rattle.door_calls.specs.declared.call.has.TheConstants as has
-use Rattle.door_ask.specs.Asked.{ArePlaced, IsContextPlaced, bytes_in, told_of}
+use Rattle.codec_calls.specs.Shapes.{bit, bit_of, context_bit}
+use Rattle.codec_calls.specs.declared.call.CallData.{CallData}
+use Rattle.codec_calls.specs.declared.call.SetattrData.{SetattrData}
+use Rattle.codec_calls.specs.declared.call.has.TheConstants as has
+use Rattle.codec_decode.specs.Asked.{ArePlaced, IsContextPlaced, bytes_in, told_of}
 use Rattle.laws_flight.specs.ToldCall.{ToldIsCall}
 
 -- ---- what the data tell
@@ -72,22 +72,22 @@ owner_told : (o : Option ℕ) → if_set (bit_of o has.OWNER) has.OWNER (unwrap_
 owner_told None = refl
 owner_told (Some o) = refl
 
-kill_told : (k : Bool) → has_flag (bit k has.KILL_PRIV) has.KILL_PRIV ≡ k
+kill_told : (k : Bool) → has_flag (bit k has.KILL_SUIDGID) has.KILL_SUIDGID ≡ k
 kill_told true = refl
 kill_told false = refl
 
-datasync_told : (k : Bool) → has_flag (bit k has.DATASYNC) has.DATASYNC ≡ k
+datasync_told : (k : Bool) → has_flag (bit k has.FSYNC_FDATASYNC) has.FSYNC_FDATASYNC ≡ k
 datasync_told true = refl
 datasync_told false = refl
 
 -- the bits of a WRITE
 abbrev write_has : (owner : Option ℕ) → (delayed kill : Bool) → ℕ
-write_has o d k = bit_of o has.OWNER + (bit d has.DELAYED + bit k has.KILL_PRIV)
+write_has o d k = bit_of o has.OWNER + (bit d has.WRITE_CACHE + bit k has.KILL_SUIDGID)
 
 record WriteTold (o : Option ℕ) (d k : Bool) : Type 0 where
   owner : if_set (write_has o d k) has.OWNER (unwrap_or o 0) ≡ o
-  delayed : has_flag (write_has o d k) has.DELAYED ≡ d
-  kill : has_flag (write_has o d k) has.KILL_PRIV ≡ k
+  delayed : has_flag (write_has o d k) has.WRITE_CACHE ≡ d
+  kill : has_flag (write_has o d k) has.KILL_SUIDGID ≡ k
 
 write_told : (o : Option ℕ) (d k : Bool) → WriteTold o d k
 write_told None true true = record { owner = refl; delayed = refl; kill = refl }
@@ -101,12 +101,12 @@ write_told (Some o) false false = record { owner = refl; delayed = refl; kill = 
 
 -- the bits of a RELEASE
 abbrev release_has : (owner : Option ℕ) → (flushes flock : Bool) → ℕ
-release_has o f k = bit_of o has.OWNER + (bit f has.FLUSHES + bit k has.FLOCK_RELEASE)
+release_has o f k = bit_of o has.OWNER + (bit f has.RELEASE_FLUSH + bit k has.RELEASE_FLOCK_UNLOCK)
 
 record ReleaseTold (o : Option ℕ) (f k : Bool) : Type 0 where
   owner : if_set (release_has o f k) has.OWNER (unwrap_or o 0) ≡ o
-  flushes : has_flag (release_has o f k) has.FLUSHES ≡ f
-  flock : has_flag (release_has o f k) has.FLOCK_RELEASE ≡ k
+  flushes : has_flag (release_has o f k) has.RELEASE_FLUSH ≡ f
+  flock : has_flag (release_has o f k) has.RELEASE_FLOCK_UNLOCK ≡ k
 
 release_told : (o : Option ℕ) (f k : Bool) → ReleaseTold o f k
 release_told None true true = record { owner = refl; flushes = refl; flock = refl }
@@ -122,10 +122,10 @@ release_told (Some o) false false = record { owner = refl; flushes = refl; flock
 
 -- the bits of extensions, and of a file that is to lose bits
 abbrev has_extensions : (kill : Bool) → ExtensionValues → ℕ
-has_extensions kill ext = bit kill has.KILL_PRIV + (context_bit ext.context + bit_of ext.group has.GROUP)
+has_extensions kill ext = bit kill has.KILL_SUIDGID + (context_bit ext.context + bit_of ext.group has.GROUP)
 
 extended_kill : (kill : Bool) (context : Option (List ℕ × List ℕ)) (group : Option ℕ)
-    → has_flag (has_extensions kill (record { context = context; group = group })) has.KILL_PRIV ≡ kill
+    → has_flag (has_extensions kill (record { context = context; group = group })) has.KILL_SUIDGID ≡ kill
 extended_kill true None None = refl
 extended_kill true None (Some g) = refl
 extended_kill true (Some c) None = refl
@@ -218,7 +218,7 @@ module _ (q : List ℕ) (options room : ℕ) (one other : Echo) (told : CallData
       cc (ap numbers_in (e tt))
   alike (call.Create ctx parent name mode kill flags umask ext) (call.Create ctx' parent' name' mode' kill' flags' umask' ext') n e p p' =
       let same_name : name ≡ name' = same_bytes _ _ _ p.0.bytes_are p'.0.bytes_are in
-      let same_kill : kill ≡ kill' = sym (extended_kill kill ext.context ext.group) ∙ ap (λ (d : CallData). has_flag d.has has.KILL_PRIV) (e tt) ∙ extended_kill kill' ext'.context ext'.group in
+      let same_kill : kill ≡ kill' = sym (extended_kill kill ext.context ext.group) ∙ ap (λ (d : CallData). has_flag d.has has.KILL_SUIDGID) (e tt) ∙ extended_kill kill' ext'.context ext'.group in
       let same_ext : ext ≡ ext' = same_extensions q told kill kill' ext ext' (ap (λ (d : CallData). d.has) (e tt)) (ap (λ (d : CallData). d.group) (e tt)) p.1 p'.1 in
       cc (ap numbers_in (e tt))
   alike (call.Unlink ctx parent name) (call.Unlink ctx' parent' name') n e p p' =
@@ -252,7 +252,7 @@ module _ (q : List ℕ) (options room : ℕ) (one other : Echo) (told : CallData
       let same_attr : attr ≡ attr' = ap (λ (d : CallData). setattr_in_of d.attr) (e tt) in
       cc (ap numbers_in (e tt))
   alike (call.Open ctx inode kill flags) (call.Open ctx' inode' kill' flags') n e p p' =
-      let same_kill : kill ≡ kill' = sym (kill_told kill) ∙ ap (λ (d : CallData). has_flag d.has has.KILL_PRIV) (e tt) ∙ kill_told kill' in
+      let same_kill : kill ≡ kill' = sym (kill_told kill) ∙ ap (λ (d : CallData). has_flag d.has has.KILL_SUIDGID) (e tt) ∙ kill_told kill' in
       cc (ap numbers_in (e tt))
   alike (call.Read ctx inode handle space size offset owner flags) (call.Read ctx' inode' handle' space' size' offset' owner' flags') n e p p' =
       let same_owner : owner ≡ owner' = sym (owner_told owner) ∙ ap owner_in (e tt) ∙ owner_told owner' in
@@ -260,19 +260,19 @@ module _ (q : List ℕ) (options room : ℕ) (one other : Echo) (told : CallData
   alike (call.Write ctx inode handle bytes size offset owner delayed kill flags) (call.Write ctx' inode' handle' bytes' size' offset' owner' delayed' kill' flags') n e p p' =
       let same_bytes : bytes ≡ bytes' = same_bytes _ _ _ p.bytes_are p'.bytes_are in
       let same_owner : owner ≡ owner' = sym ((write_told owner delayed kill).owner) ∙ ap owner_in (e tt) ∙ (write_told owner' delayed' kill').owner in
-      let same_delayed : delayed ≡ delayed' = sym ((write_told owner delayed kill).delayed) ∙ ap (λ (d : CallData). has_flag d.has has.DELAYED) (e tt) ∙ (write_told owner' delayed' kill').delayed in
-      let same_kill : kill ≡ kill' = sym ((write_told owner delayed kill).kill) ∙ ap (λ (d : CallData). has_flag d.has has.KILL_PRIV) (e tt) ∙ (write_told owner' delayed' kill').kill in
+      let same_delayed : delayed ≡ delayed' = sym ((write_told owner delayed kill).delayed) ∙ ap (λ (d : CallData). has_flag d.has has.WRITE_CACHE) (e tt) ∙ (write_told owner' delayed' kill').delayed in
+      let same_kill : kill ≡ kill' = sym ((write_told owner delayed kill).kill) ∙ ap (λ (d : CallData). has_flag d.has has.KILL_SUIDGID) (e tt) ∙ (write_told owner' delayed' kill').kill in
       cc (ap numbers_in (e tt))
   alike (call.Release ctx inode flags handle flushes flock owner) (call.Release ctx' inode' flags' handle' flushes' flock' owner') n e p p' =
       let same_owner : owner ≡ owner' = sym ((release_told owner flushes flock).owner) ∙ ap owner_in (e tt) ∙ (release_told owner' flushes' flock').owner in
-      let same_flushes : flushes ≡ flushes' = sym ((release_told owner flushes flock).flushes) ∙ ap (λ (d : CallData). has_flag d.has has.FLUSHES) (e tt) ∙ (release_told owner' flushes' flock').flushes in
-      let same_flock : flock ≡ flock' = sym ((release_told owner flushes flock).flock) ∙ ap (λ (d : CallData). has_flag d.has has.FLOCK_RELEASE) (e tt) ∙ (release_told owner' flushes' flock').flock in
+      let same_flushes : flushes ≡ flushes' = sym ((release_told owner flushes flock).flushes) ∙ ap (λ (d : CallData). has_flag d.has has.RELEASE_FLUSH) (e tt) ∙ (release_told owner' flushes' flock').flushes in
+      let same_flock : flock ≡ flock' = sym ((release_told owner flushes flock).flock) ∙ ap (λ (d : CallData). has_flag d.has has.RELEASE_FLOCK_UNLOCK) (e tt) ∙ (release_told owner' flushes' flock').flock in
       cc (ap numbers_in (e tt))
   alike (call.Fsync ctx inode datasync handle) (call.Fsync ctx' inode' datasync' handle') n e p p' =
-      let same_datasync : datasync ≡ datasync' = sym (datasync_told datasync) ∙ ap (λ (d : CallData). has_flag d.has has.DATASYNC) (e tt) ∙ datasync_told datasync' in
+      let same_datasync : datasync ≡ datasync' = sym (datasync_told datasync) ∙ ap (λ (d : CallData). has_flag d.has has.FSYNC_FDATASYNC) (e tt) ∙ datasync_told datasync' in
       cc (ap numbers_in (e tt))
   alike (call.Fsyncdir ctx inode datasync handle) (call.Fsyncdir ctx' inode' datasync' handle') n e p p' =
-      let same_datasync : datasync ≡ datasync' = sym (datasync_told datasync) ∙ ap (λ (d : CallData). has_flag d.has has.DATASYNC) (e tt) ∙ datasync_told datasync' in
+      let same_datasync : datasync ≡ datasync' = sym (datasync_told datasync) ∙ ap (λ (d : CallData). has_flag d.has has.FSYNC_FDATASYNC) (e tt) ∙ datasync_told datasync' in
       cc (ap numbers_in (e tt))
   alike (call.BatchForget ctx pairs) (call.BatchForget ctx' pairs') n e p p' =
       let same_pairs : pairs ≡ pairs' = sym p.pairs_are ∙ ap (λ (d : CallData). pairs_of d.length (bytes_in q told.data)) (e tt) ∙ p'.pairs_are in

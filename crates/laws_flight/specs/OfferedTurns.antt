@@ -6,13 +6,13 @@ use Rattle.vfs_grammar.specs.Room.{IsReplied}
 use Rattle.vfs_grammar.specs.Turn.{Turn, IsTurn}
 use Rattle.vfs_grammar.specs.declared.error.Error.TheVariants.{DecodeMessage}
 use Rattle.vfs_grammar.specs.declared.limits.Limits.{Limits}
-use Rattle.door_calls.specs.declared.call.CallData.{CallData}
-use Rattle.door_calls.specs.declared.call.kind.TheConstants as kind
-use Rattle.door_calls.specs.declared.call.number.TheConstants as number
-use Rattle.door_answer.specs.Answering.{echo_told}
-use Rattle.door_ask.specs.WithOpcode.{with_opcode}
-use Rattle.door_answer.specs.Fitting.{IsFit}
-use Rattle.door_ask.specs.Further.{What, Ordinary, Short, Row, Unnamed, told_under, what_of}
+use Rattle.codec_calls.specs.declared.call.CallData.{CallData}
+use Rattle.codec_calls.specs.declared.call.kind.TheConstants as kind
+use Rattle.codec_calls.specs.declared.call.number.TheConstants as number
+use Rattle.codec_encode.specs.Answering.{echo_told}
+use Rattle.codec_decode.specs.WithOpcode.{with_opcode}
+use Rattle.codec_encode.specs.Fitting.{IsFit}
+use Rattle.codec_decode.specs.Further.{What, Ordinary, Short, Row, Unnamed, told_under, what_of}
 
 -- A request with what is seen of it from outside, and with the rows that are offered then: a turn, and the call of a
 -- row with its answer, where one was asked for.
@@ -24,10 +24,10 @@ pub record OfferedTurn : Type 0 where
 -- the kinds of answers of the rows, by the numbers that tell them
 abbrev pub row_kind : (number : ℕ) → Kind
 row_kind n =
-    if n == kind.DONE then Told
-    else if n == kind.TEXT then Texts
+    if n == kind.STATUS then Told
+    else if n == kind.BYTES then Texts
     else if n == kind.OFFSET then Offsets
-    else if n == kind.WRITTEN then Writes
+    else if n == kind.COUNT then Writes
     else Quiet
 
 -- the bytes of a TMPFILE with CREATE's number in place of its own: they ask what it asks

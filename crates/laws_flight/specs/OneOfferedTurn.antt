@@ -6,20 +6,20 @@ use Rattle.vfs_files.specs.Runs.{Event}
 use Rattle.vfs_messages.specs.Rooms.{with_after}
 use Rattle.vfs_grammar.specs.Ask.{ask}
 use Rattle.vfs_grammar.specs.declared.limits.Limits.{Limits}
-use Rattle.door_calls.specs.declared.call.CallData.{CallData}
-use Rattle.door_calls.specs.declared.call.number.TheConstants as number
-use Rattle.door_calls.specs.declared.data.AnswerData.{AnswerData}
-use Rattle.door_calls.specs.declared.data.ItemData.{ItemData}
-use Rattle.door_answer.specs.Answering.{Answers}
-use Rattle.door_answer.specs.Kinds.{kind_told}
-use Rattle.door_answer.specs.Said.{IsSaid}
-use Rattle.door_answer.specs.Told.{AnswersEachCall, AnswersEachListing}
-use Rattle.door_answer.specs.declared.answered.Answered.{Answered}
-use Rattle.door_ask.specs.Asked.{IsAsked}
-use Rattle.door_ask.specs.declared.asked.Asked.TheVariants as asked
+use Rattle.codec_calls.specs.declared.call.CallData.{CallData}
+use Rattle.codec_calls.specs.declared.call.number.TheConstants as number
+use Rattle.codec_calls.specs.declared.data.AnswerData.{AnswerData}
+use Rattle.codec_calls.specs.declared.data.ItemData.{ItemData}
+use Rattle.codec_encode.specs.Answering.{Answers}
+use Rattle.codec_encode.specs.Kinds.{kind_told}
+use Rattle.codec_encode.specs.Said.{IsSaid}
+use Rattle.codec_encode.specs.Told.{AnswersEachCall, AnswersEachListing}
+use Rattle.codec_encode.specs.declared.answered.Answered.{Answered}
+use Rattle.codec_decode.specs.Asked.{IsAsked}
+use Rattle.codec_decode.specs.declared.asked.Asked.TheVariants as asked
 use Rattle.laws_flight.specs.OneTurn.{HappenedBetween}
-use Rattle.door_answer.specs.Fitting.{answer_offered}
-use Rattle.door_ask.specs.Further.{What, Ordinary, Short, Row, Unnamed, told_under, what_of}
+use Rattle.codec_encode.specs.Fitting.{answer_offered}
+use Rattle.codec_decode.specs.Further.{What, Ordinary, Short, Row, Unnamed, told_under, what_of}
 use Rattle.laws_flight.specs.OfferedTurns.{IsOfferedTurn, OfferedTurn, as_create, row_kind}
 
 -- the call of a TMPFILE, which was told as that of a CREATE

@@ -14,15 +14,15 @@ use Rattle.vfs_grammar.specs.Turn.{IsTurn, node_answered}
 use Rattle.vfs_grammar.specs.Words.{IsRead}
 use Rattle.vfs_grammar.specs.declared.limits.Limits.{Limits}
 use Rattle.vfs_grammar.specs.declared.error.Error.{Error}
-use Rattle.door_calls.specs.declared.call.CallData.{CallData}
-use Rattle.door_calls.specs.declared.data.AnswerData.{AnswerData}
-use Rattle.door_calls.specs.declared.data.ItemData.{ItemData}
-use Rattle.door_answer.specs.Listing.{IsOfferedBy}
-use Rattle.door_answer.specs.Said.{IsSaid}
-use Rattle.door_answer.specs.Told.{AnswersEachCall, AnswersEachListing}
-use Rattle.door_answer.specs.declared.answered.Answered.{Answered}
-use Rattle.door_ask.specs.Asked.{IsAsked}
-use Rattle.door_ask.specs.declared.asked.Asked.TheVariants as asked
+use Rattle.codec_calls.specs.declared.call.CallData.{CallData}
+use Rattle.codec_calls.specs.declared.data.AnswerData.{AnswerData}
+use Rattle.codec_calls.specs.declared.data.ItemData.{ItemData}
+use Rattle.codec_encode.specs.Listing.{IsOfferedBy}
+use Rattle.codec_encode.specs.Said.{IsSaid}
+use Rattle.codec_encode.specs.Told.{AnswersEachCall, AnswersEachListing}
+use Rattle.codec_encode.specs.declared.answered.Answered.{Answered}
+use Rattle.codec_decode.specs.Asked.{IsAsked}
+use Rattle.codec_decode.specs.declared.asked.Asked.TheVariants as asked
 
 -- The events of a directory that was read from items that were offered, of which that many are in the reply.
 pub record AreOfItems (l : Listing) (a : AnswerData) (items : List ItemData) (taken : ℕ)

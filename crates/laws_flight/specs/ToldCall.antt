@@ -2,8 +2,8 @@
 use Rattle.std.specs.Prelude.{◌≡◌, ◌↔◌, ℕ, List}
 use Rattle.vfs_files.specs.Calls.{Call}
 use Rattle.vfs_grammar.specs.Reply.{Echo}
-use Rattle.door_calls.specs.declared.call.CallData.{CallData}
-use Rattle.door_ask.specs.Asked.{IsTold}
+use Rattle.codec_calls.specs.declared.call.CallData.{CallData}
+use Rattle.codec_decode.specs.Asked.{IsTold}
 use Rattle.laws_flight.specs.Table.{TellsByTable, of_request}
 
 -- Two calls that the same data tell, over the bytes of one request, are one call: no two calls have the same

@@ -1,8 +1,8 @@
 //! Requests that cross, and what a turn says of the data that it was answered by.
 
 ghost use Rattle.std.specs.Prelude.{◌≡◌, ◌≢◌, ℕ, List, Option, [], ◌∷◌, length, pos};
-ghost use Rattle.door_calls.specs.declared.data.AnswerData.{AnswerData};
-ghost use Rattle.door_calls.specs.declared.data.ItemData.{ItemData};
+ghost use Rattle.codec_calls.specs.declared.data.AnswerData.{AnswerData};
+ghost use Rattle.codec_calls.specs.declared.data.ItemData.{ItemData};
 ghost use Rattle.vfs_files.specs.Calls.{Failed, Getattr};
 ghost use Rattle.vfs_files.specs.Runs.{Called};
 ghost use Rattle.vfs_files.specs.declared.entry.Context.{Context};
@@ -14,8 +14,8 @@ ghost use Rattle.vfs_grammar.specs.Reply.{Echo};
 ghost use Rattle.vfs_grammar.specs.Turn.{Turn};
 ghost use Rattle.vfs_grammar.specs.declared.limits.Limits.{Limits};
 ghost use Rattle.vfs_segments.specs.Written.{Written, Leaves};
-ghost use Rattle.door_answer.specs.Said.{IsFailed};
-ghost use Rattle.door_answer.specs.declared.answered.Answered.{Answered};
+ghost use Rattle.codec_encode.specs.Said.{IsFailed};
+ghost use Rattle.codec_encode.specs.declared.answered.Answered.{Answered};
 ghost use Rattle.laws_flight.specs.OneTurn.{IsAnsweredTurn};
 
 use crate::laws::turns_in_flight_keep_books;

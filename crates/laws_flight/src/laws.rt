@@ -8,7 +8,7 @@ ghost use Rattle.vfs_grammar.specs.Books.{KeepsBooks, answered};
 ghost use Rattle.vfs_grammar.specs.Turn.{AreTurns, IsTurn, Turn, events_in};
 ghost use Rattle.vfs_grammar.specs.declared.error.Error.TheVariants.{DecodeMessage};
 ghost use Rattle.vfs_grammar.specs.declared.limits.Limits.{Limits};
-ghost use Rattle.door_ask.specs.Further.{Ordinary, Short, Unnamed, what_of};
+ghost use Rattle.codec_decode.specs.Further.{Ordinary, Short, Unnamed, what_of};
 ghost use Rattle.laws_flight.specs.Flight.{Waiting, Move, turns_answered, AreInFlight, AreAskedInTime};
 ghost use Rattle.laws_flight.specs.Made.{NoCountIsBelow};
 ghost use Rattle.laws_flight.specs.OfferedTurns.{AreOffered, AreOfferedInOrder, IsOfferedTurn, OfferedTurn, all_seen, plain, seen};

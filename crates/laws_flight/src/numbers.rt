@@ -1,8 +1,8 @@
 //! Of requests in flight, small numbers: what is told of calls that have nothing but a number, and which answers may come.
 
 ghost use Rattle.std.specs.Prelude.{◌≡◌, ℕ, List, [], ◌∷◌, length};
-ghost use Rattle.door_ask.specs.Asked.{IsTold};
-ghost use Rattle.door_calls.specs.declared.call.CallData.{CallData};
+ghost use Rattle.codec_decode.specs.Asked.{IsTold};
+ghost use Rattle.codec_calls.specs.declared.call.CallData.{CallData};
 ghost use Rattle.vfs_files.specs.Calls.{Bmap, Destroy, Getlk, Init, Ioctl, NotifyReply, Poll, Setlk, Setlkw, Tmpfile};
 ghost use Rattle.vfs_grammar.specs.Reply.{Echo};
 ghost use Rattle.vfs_grammar.specs.Turn.{Turn};

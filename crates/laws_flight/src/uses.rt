@@ -14,9 +14,9 @@ ghost use Rattle.vfs_grammar.specs.Books.{KeepsBooks, answered, delivered, sent}
 ghost use Rattle.vfs_grammar.specs.Turn.{AreTurns, Turn};
 ghost use Rattle.vfs_grammar.specs.declared.limits.Limits.{Limits};
 ghost use Rattle.vfs_grammar.specs.Reply.{Echo};
-ghost use Rattle.door_calls.specs.Shapes.{no_range};
-ghost use Rattle.door_calls.specs.declared.call.CallData.{CallData};
-ghost use Rattle.door_ask.specs.Asked.{IsEnough, IsTold};
+ghost use Rattle.codec_calls.specs.Shapes.{no_range};
+ghost use Rattle.codec_calls.specs.declared.call.CallData.{CallData};
+ghost use Rattle.codec_decode.specs.Asked.{IsEnough, IsTold};
 ghost use Rattle.laws_flight.specs.Flight.{Waiting, IsTurnOf};
 ghost use Rattle.laws_flight.specs.Made.{AreSeen, Began, Completed, Point, Seen, events_seen, ForgetsWhatItWasTold, given_back_by};
 ghost use Rattle.laws_flight.specs.OneTurn.{IsAnsweredTurn, IsFinishedTurn};
@@ -28,9 +28,9 @@ use crate::laws::{
     no_count_falls_below_zero_in_flight, the_table_says_what_is_told, turns_in_flight_are_in_order,
     turns_in_flight_keep_books, what_is_told_is_the_call,
 };
-use door_answer::{Answered, answer};
-use door_ask::{Asked, ask};
-use door_calls::{AnswerData, CallData, ItemData};
+use codec_calls::{AnswerData, CallData, ItemData};
+use codec_decode::{Asked, ask};
+use codec_encode::{Answered, answer};
 use std::alloc::Global;
 use vfs_files::FileSystem;
 use vfs_flags::FsOptions;

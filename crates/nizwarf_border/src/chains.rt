@@ -6,7 +6,7 @@ ghost use Rattle.vhost_protocol.specs.Rings.{needs_event_at, waiting_of};
 ghost use Rattle.vhost_protocol.specs.Walks.{begun, code_of, piece_after, step_at, walk_after};
 
 use vhost_protocol::chains::{
-    MORE, Piece, Refusal, Region, Walk, begin, needs_event, slot, take_step, waiting,
+    ChainRefusal, MORE, Piece, Region, Walk, begin, needs_event, slot, take_step, waiting,
 };
 
 /// Begins a walk at the descriptor `head`: 1, or the number of the refusal, and then `walk` stays. See [`begin`].
@@ -17,7 +17,7 @@ pub extern "C" fn nizwarf_chain_begin_at(size: u32, most: u32, head: u32, walk: 
         (λ begun. (result ≡ pos 1) × (walk.new ≡ begun)) }
 {
     let Some(begun) = begin(size, most, head) else {
-        return Refusal::OutsideTable as i32;
+        return ChainRefusal::OutsideTable as i32;
     };
     *walk = begun;
     MORE

@@ -9,13 +9,13 @@ use Rattle.vfs_grammar.specs.Limits.{max_len}
 use Rattle.vfs_grammar.specs.Records.{record_of, size_of}
 use Rattle.vfs_grammar.specs.declared.error.Error.{Error}
 use Rattle.vfs_grammar.specs.declared.limits.Limits.{Limits}
-use Rattle.door_calls.specs.declared.call.CallData.{CallData}
-use Rattle.door_calls.specs.declared.call.kind.TheConstants as kind
-use Rattle.door_calls.specs.declared.call.number.TheConstants as number
-use Rattle.door_ask.specs.declared.offers.TheConstants as row
-use Rattle.door_ask.specs.Further.{What, Ordinary, Short, Row, Unnamed, Tells, ioctl_place, or_short, row_of, told_under, what_after}
-use Rattle.door_ask.specs.declared.row.Further.{Further}
-use Rattle.door_ask.specs.declared.row.Further.TheVariants as further
+use Rattle.codec_calls.specs.declared.call.CallData.{CallData}
+use Rattle.codec_calls.specs.declared.call.kind.TheConstants as kind
+use Rattle.codec_calls.specs.declared.call.number.TheConstants as number
+use Rattle.codec_decode.specs.declared.offers.TheConstants as row
+use Rattle.codec_decode.specs.Further.{What, Ordinary, Short, Row, Unnamed, Tells, ioctl_place, or_short, row_of, told_under, what_after}
+use Rattle.codec_decode.specs.declared.row.Further.{Further}
+use Rattle.codec_decode.specs.declared.row.Further.TheVariants as further
 use Rattle.vfs_server.specs.Step.{ServerState}
 use Rattle.nizwarf_tree.specs.Files.{State}
 use Rattle.nizwarf_tree.specs.Offered.{AsksRow, row_limits, what_asked}
@@ -25,7 +25,7 @@ use Rattle.nizwarf_tree.specs.declared.files.TheConstants.{OFFERS}
 
 -- a call of a row that a request asks for is
 abbrev pub TextOf : What → Type 0
-TextOf (Row told) = told.answer ≡ kind.TEXT
+TextOf (Row told) = told.answer ≡ kind.BYTES
 TextOf Ordinary = Unit {0}
 TextOf Short = Unit {0}
 TextOf Unnamed = Unit {0}
@@ -37,7 +37,7 @@ by_record : {R : Type 0} (r : Result R Error) (next : R → What) → ((x : R) �
 by_record (Err error) next is = record { text = tt {0} }
 by_record (Ok x) next is = is x
 
-whole : (b : Bool) (told : CallData) → told.answer ≡ kind.TEXT → IsText (if b then Row told else Short)
+whole : (b : Bool) (told : CallData) → told.answer ≡ kind.BYTES → IsText (if b then Row told else Short)
 whole true told is = record { text = is }
 whole false told is = record { text = tt {0} }
 
@@ -117,7 +117,7 @@ module _ (server : ServerState State) (total : ℕ) (q : List ℕ) (result : Fur
   pub is_row : Told (what_asked server.limits q) → result ≡ further.Row → AsksRow server total q after
   is_row t is = row_told (what_asked server.limits q) refl t is
 
-  pub is_text : AsksRow server total q after → after.answer ≡ kind.TEXT
+  pub is_text : AsksRow server total q after → after.answer ≡ kind.BYTES
   is_text a =
       let text : IsText (Row a.row) = subst IsText a.asks (are_texts server.limits q) in
       rw a.told text.text

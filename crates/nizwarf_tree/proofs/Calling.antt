@@ -2,7 +2,7 @@
 use Rattle.std.proofs.Common.{◌≡◌, ◌≤◌, ◌^◌, ◌⊎◌, ◌++◌, ◌∙◌, length, ℕ, ℤ, List, [], ◌∷◌, Option, Some, None, IfSome, MatchOption, append-nil, ap, refl, subst, sym, inl, inr}
 use Rattle.vfs_server.specs.Step.{ServerState}
 use Rattle.laws_history.specs.History.{Moment, Handled, Changed, IsHistory, HistoriesKeepBooks}
-use Rattle.door_ask.specs.Further.{What, Ordinary, Short, Row, Unnamed}
+use Rattle.codec_decode.specs.Further.{What, Ordinary, Short, Row, Unnamed}
 use Rattle.laws_flight.specs.OfferedTurns.{as_create}
 use Rattle.vfs_grammar.specs.declared.limits.Limits.{Limits}
 use Rattle.c_rooms.specs.Codes.{ok, no_memory, too_long}

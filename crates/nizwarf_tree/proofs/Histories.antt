@@ -4,7 +4,7 @@ use Rattle.std.proofs.lemmas.List.{append_cancel_left}
 use Rattle.vfs_server.specs.Step.{ServerState}
 use Rattle.laws_history.specs.History.{GoesOnHandled, GoesOnChanged, turn_of}
 use Rattle.nizwarf_tree.specs.Files.{State, Allows, Gives}
-use Rattle.door_ask.specs.Further.{What, Ordinary, Short, Row, Unnamed}
+use Rattle.codec_decode.specs.Further.{What, Ordinary, Short, Row, Unnamed}
 use Rattle.laws_flight.specs.OfferedTurns.{as_create}
 use Rattle.nizwarf_tree.specs.History.{Answered, AnsweredAs, Told, Turned}
 use Rattle.nizwarf_tree.specs.Offered.{what_asked}

@@ -10,16 +10,16 @@ use Rattle.vfs_grammar.specs.Reply.{Reply, Refusal, NoReply, Bytes, OpenAfter, r
 use Rattle.vfs_grammar.specs.declared.error.Error.{Error}
 use Rattle.vfs_grammar.specs.declared.error.Error.TheVariants.{DecodeMessage}
 use Rattle.vfs_grammar.specs.declared.limits.Limits.{Limits}
-use Rattle.door_calls.specs.declared.call.CallData.{CallData}
-use Rattle.door_calls.specs.declared.call.kind.TheConstants as kind
-use Rattle.door_calls.specs.declared.data.AnswerData.{AnswerData}
-use Rattle.door_answer.specs.Answering.{Answers, echo_told}
-use Rattle.door_answer.specs.Kinds.{kind_told}
-use Rattle.door_answer.specs.Said.{IsSaid}
-use Rattle.door_answer.specs.Told.{AnswersEachCall, AnswersEachListing}
-use Rattle.door_answer.specs.declared.answered.Answered.{Answered}
-use Rattle.door_answer.specs.Fitting.{answer_offered, fits, is_unfit}
-use Rattle.door_ask.specs.Further.{What, Short, Row, told_under, what_of}
+use Rattle.codec_calls.specs.declared.call.CallData.{CallData}
+use Rattle.codec_calls.specs.declared.call.kind.TheConstants as kind
+use Rattle.codec_calls.specs.declared.data.AnswerData.{AnswerData}
+use Rattle.codec_encode.specs.Answering.{Answers, echo_told}
+use Rattle.codec_encode.specs.Kinds.{kind_told}
+use Rattle.codec_encode.specs.Said.{IsSaid}
+use Rattle.codec_encode.specs.Told.{AnswersEachCall, AnswersEachListing}
+use Rattle.codec_encode.specs.declared.answered.Answered.{Answered}
+use Rattle.codec_encode.specs.Fitting.{answer_offered, fits, is_unfit}
+use Rattle.codec_decode.specs.Further.{What, Short, Row, told_under, what_of}
 use Rattle.laws_flight.specs.OneOfferedTurn.{AreOneOfferedTurn, HappenedOffered, IsAnsweredOffered, IsToldOffered, offered_turn}
 use Rattle.laws_flight.specs.OfferedTurns.{FollowsOffered, IsOfferedTurn, OfferedTurn, row_kind}
 use Rattle.c_rooms.specs.Codes.{outcome_code, length_of, shown_of}
@@ -59,9 +59,9 @@ not_fine a error is some = test (int_eq a.error (pos 0)) (λ e.
 
 is_fit : (call : CallData) (a : AnswerData) (text : List ℕ) (answer : Answer) → SaysText call a text answer
     → is_unfit call a text ≡ false
-is_fit call a text (Text bytes) s = fitting (call.answer == kind.TEXT) (int_eq a.error (pos 0)) (fits call text) s.3
+is_fit call a text (Text bytes) s = fitting (call.answer == kind.BYTES) (int_eq a.error (pos 0)) (fits call text) s.3
 is_fit call a text (Failed (Some error)) s =
-    failing (call.answer == kind.TEXT) (int_eq a.error (pos 0)) (not (fits call text)) (not_fine a error s.0 s.1)
+    failing (call.answer == kind.BYTES) (int_eq a.error (pos 0)) (not (fits call text)) (not_fine a error s.0 s.1)
 is_fit call a text (Failed None) s = absurd s
 is_fit call a text _ s = absurd s
 
@@ -101,7 +101,7 @@ replied_lengths (OpenAfter reply) old new outcome h = h.leaves.same_segments
 
 -- those of a reply with a text are as they were
 pub same_lengths : (limits : Limits) (call : CallData) (a : AnswerData) (text : List ℕ) (old new : Written)
-    (result : Option Answered) → call.answer ≡ kind.TEXT → length old.left ≡ call.room
+    (result : Option Answered) → call.answer ≡ kind.BYTES → length old.left ≡ call.room
     → Answers limits (kind_told call.answer call.size) call a text [] old result new → new.lengths ≡ old.lengths
 same_lengths limits call a text old new result is_text space x =
     by result (subst (λ (n : ℕ). Answers limits (kind_told n call.size) call a text [] old result new) is_text x)
@@ -127,7 +127,7 @@ none_more : (w : Written) → length (whole (with_after w [])) ≡ length (whole
 none_more w = ap (λ (left : List ℕ). length (w.passed ++ left)) (append-nil w.left)
 
 pub same_whole : (limits : Limits) (call : CallData) (a : AnswerData) (text : List ℕ) (old new : Written)
-    (result : Option Answered) → call.answer ≡ kind.TEXT → length old.left ≡ call.room
+    (result : Option Answered) → call.answer ≡ kind.BYTES → length old.left ≡ call.room
     → Answers limits (kind_told call.answer call.size) call a text [] old result new
     → length (whole new) ≡ length (whole old)
 same_whole limits call a text old new result is_text space x =
@@ -153,7 +153,7 @@ module _ (old middle new : ServerState State) (request : List ℕ) (total : ℕ)
     (bytes room : List ℕ) (shown : ℕ) (call : CallData) (a : AnswerData) (text : List ℕ) (limits : Limits)
     (before after : Written) (came : Answered)
     (same : middle ≡ old) (kept : new ≡ middle) (limits_are : limits ≡ row_limits old.limits)
-    (asks : AsksRow old total request call) (is_text : call.answer ≡ kind.TEXT)
+    (asks : AsksRow old total request call) (is_text : call.answer ≡ kind.BYTES)
     (says : SaysText call a text (row_answer old.fs call)) (space : length before.left ≡ total)
     (is : bytes ≡ whole after) (end : room ≡ drop (length bytes - total) bytes)
     (numbered : number ≡ outcome_code came.outcome) (counted : len ≡ length_of came.outcome)

@@ -6,8 +6,8 @@ use Rattle.vfs_grammar.specs.declared.error.Error.{Error}
 use Rattle.vfs_server.specs.Step.{ServerState, IsStep, ReadsDirectories}
 use Rattle.c_rooms.specs.Codes.{no_memory, too_long, outcome_code, length_of, shown_of}
 use Rattle.nizwarf_tree.specs.Files.{State, Allows, Gives}
-use Rattle.door_calls.specs.declared.call.CallData.{CallData}
-use Rattle.door_ask.specs.Further.{What, Ordinary, Short, Row, Unnamed}
+use Rattle.codec_calls.specs.declared.call.CallData.{CallData}
+use Rattle.codec_decode.specs.Further.{What, Ordinary, Short, Row, Unnamed}
 use Rattle.laws_flight.specs.OfferedTurns.{as_create}
 use Rattle.nizwarf_tree.specs.Offered.{what_asked}
 use Rattle.nizwarf_tree.specs.Served.{Refused, RowInC, ServedAs, ServedInC, SteppedInC}

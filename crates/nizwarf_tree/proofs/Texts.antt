@@ -4,9 +4,9 @@ use Rattle.std.proofs.lemmas.Bool.{le-leb}
 use Rattle.std.proofs.lemmas.List.{take_all}
 use Rattle.vfs_wire.specs.Fields.{number as number_of}
 use Rattle.vfs_files.specs.Calls.{Text}
-use Rattle.door_calls.specs.declared.call.CallData.{CallData}
-use Rattle.door_calls.specs.declared.call.number.TheConstants as number
-use Rattle.door_answer.specs.Fitting.{fits, fits_ioctl}
+use Rattle.codec_calls.specs.declared.call.CallData.{CallData}
+use Rattle.codec_calls.specs.declared.call.number.TheConstants as number
+use Rattle.codec_encode.specs.Fitting.{fits, fits_ioctl}
 use Rattle.fs_tree.specs.Rows.{statx_answer}
 use Rattle.nizwarf_tree.specs.Files.{State, row_answer}
 

@@ -2,7 +2,7 @@
 use Rattle.std.proofs.Common.{◌≡◌, ◌≢◌, ◌⊎◌, ◌^◌, ◌≤◌, ◌∙◌, ℕ, ℤ, List, length, Option, Some, None, IfSome, MatchOption, ap, subst, inl, inr}
 use Rattle.vfs_grammar.specs.Ask.{ask}
 use Rattle.vfs_grammar.specs.Forms.{Lists}
-use Rattle.door_ask.specs.Further.{What}
+use Rattle.codec_decode.specs.Further.{What}
 use Rattle.c_rooms.specs.Codes.{no_memory, too_long}
 use Rattle.vfs_server.specs.Step.{ServerState}
 use Rattle.nizwarf_tree.specs.Files.{State}

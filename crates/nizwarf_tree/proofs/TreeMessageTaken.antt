@@ -6,7 +6,7 @@ use Rattle.vfs_grammar.specs.declared.error.Error.{Error}
 use Rattle.vfs_grammar.specs.declared.error.Error.TheVariants.{DecodeMessage, EncodeMessage, FlushMessage, MissingParameter, InvalidCString, InvalidCString2, InvalidHeaderLength, InvalidXattrSize, MissingExtension, OutOfMemory}
 use Rattle.c_rooms.specs.Codes.{ok, no_memory, no_server, outcome_code, length_of, shown_of}
 use Rattle.nizwarf_tree.specs.Files.{State}
-use Rattle.door_ask.specs.Further.{What, Ordinary, Short, Row, Unnamed}
+use Rattle.codec_decode.specs.Further.{What, Ordinary, Short, Row, Unnamed}
 use Rattle.nizwarf_tree.specs.History.{Answered, AnsweredAs}
 use Rattle.nizwarf_tree.specs.Offered.{what_asked}
 use Rattle.nizwarf_tree.specs.TreeUses.{IsTaken}

@@ -17,7 +17,7 @@ use Rattle.vfs_grammar.specs.declared.error.Error.{Error}
 use Rattle.vfs_grammar.specs.declared.limits.Limits.{Limits}
 use Rattle.vfs_server.specs.Step.{ServerState}
 use Rattle.laws_history.specs.History.{Handled, IsHistory, IsHandled}
-use Rattle.door_ask.specs.Further.{What, Ordinary}
+use Rattle.codec_decode.specs.Further.{What, Ordinary}
 use Rattle.c_rooms.specs.Codes.{ok, outcome_code, shown_of}
 use Rattle.nizwarf_tree.specs.Files.{State, Allows, Gives, new_state, at_time}
 use Rattle.nizwarf_tree.specs.History.{Turned, Answered, AnsweredAs, HandlesTwo}

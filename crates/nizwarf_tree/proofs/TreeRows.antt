@@ -6,10 +6,10 @@ use Rattle.vfs_flags.specs.declared.constants.TheConstants.{GREATEST_MAX_BUFFER,
 use Rattle.vfs_wire.specs.Fields.{little, number}
 use Rattle.vfs_files.specs.Calls.{Answer}
 use Rattle.vfs_grammar.specs.declared.limits.Limits.{Limits}
-use Rattle.door_calls.specs.declared.call.CallData.{CallData}
-use Rattle.door_ask.specs.Further.{What, Ordinary, Row, told_under, what_of}
+use Rattle.codec_calls.specs.declared.call.CallData.{CallData}
+use Rattle.codec_decode.specs.Further.{What, Ordinary, Row, told_under, what_of}
 use Rattle.laws_flight.specs.OfferedTurns.{FollowsOffered}
-use Rattle.door_ask.specs.RowUses.{statx, statx_asked}
+use Rattle.codec_decode.specs.RowUses.{statx, statx_asked}
 use Rattle.c_rooms.specs.Codes.{ok}
 use Rattle.vfs_server.specs.Step.{ServerState}
 use Rattle.fs_tree.specs.Rows.{ioctl_answer, statx_answer}

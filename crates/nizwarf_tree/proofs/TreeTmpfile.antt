@@ -5,9 +5,9 @@ use Rattle.std.specs.Prelude.{max, min}
 use Rattle.vfs_flags.specs.declared.constants.TheConstants.{GREATEST_MAX_BUFFER, LEAST_MAX_BUFFER}
 use Rattle.vfs_grammar.specs.declared.limits.Limits.{Limits}
 use Rattle.vfs_wire.specs.Fields.{little, number}
-use Rattle.door_ask.specs.Further.{What, Ordinary, Unnamed}
+use Rattle.codec_decode.specs.Further.{What, Ordinary, Unnamed}
 use Rattle.laws_flight.specs.OfferedTurns.{as_create}
-use Rattle.door_ask.specs.RowUses.{tmpfile}
+use Rattle.codec_decode.specs.RowUses.{tmpfile}
 use Rattle.c_rooms.specs.Codes.{ok}
 use Rattle.vfs_server.specs.Step.{ServerState}
 use Rattle.nizwarf_tree.specs.Files.{State}

@@ -5,8 +5,8 @@ use Rattle.vfs_flags.specs.Numbers.{enosys}
 use Rattle.vfs_files.specs.Values.{Item}
 use Rattle.vfs_files.specs.Calls.{Answer, Failed, Call, Handed}
 use Rattle.vfs_files.specs.Listing.{GivesFirst}
-use Rattle.door_calls.specs.declared.call.CallData.{CallData}
-use Rattle.door_calls.specs.declared.call.number.TheConstants as number
+use Rattle.codec_calls.specs.declared.call.CallData.{CallData}
+use Rattle.codec_calls.specs.declared.call.number.TheConstants as number
 use Rattle.fs_tree.specs.Rows.{ioctl_answer, statx_answer}
 use Rattle.fs_tree.specs.State as tree
 use Rattle.fs_tree.specs.Tree.{TreeAllows, first_state}

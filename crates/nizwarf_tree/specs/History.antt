@@ -4,7 +4,7 @@ use Rattle.vfs_grammar.specs.Books.{KeepsBooks}
 use Rattle.vfs_grammar.specs.Turn.{Turn}
 use Rattle.vfs_server.specs.Step.{ServerState}
 use Rattle.laws_history.specs.History.{Moment, Handled, Changed, IsHistory, turns_in}
-use Rattle.door_ask.specs.Further.{What, Ordinary, Short, Row, Unnamed}
+use Rattle.codec_decode.specs.Further.{What, Ordinary, Short, Row, Unnamed}
 use Rattle.laws_flight.specs.OfferedTurns.{as_create}
 use Rattle.c_rooms.specs.Codes.{outcome_code, length_of, shown_of}
 use Rattle.nizwarf_tree.specs.Files.{State, Allows, Gives, at_time}

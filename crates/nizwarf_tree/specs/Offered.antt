@@ -2,8 +2,8 @@
 use Rattle.std.specs.Prelude.{◌≡◌, ℕ, List, max, min}
 use Rattle.vfs_flags.specs.declared.constants.TheConstants.{GREATEST_MAX_BUFFER, LEAST_MAX_BUFFER}
 use Rattle.vfs_grammar.specs.declared.limits.Limits.{Limits}
-use Rattle.door_calls.specs.declared.call.CallData.{CallData}
-use Rattle.door_ask.specs.Further.{What, Row, told_under, what_of}
+use Rattle.codec_calls.specs.declared.call.CallData.{CallData}
+use Rattle.codec_decode.specs.Further.{What, Row, told_under, what_of}
 use Rattle.vfs_server.specs.Step.{ServerState}
 use Rattle.nizwarf_tree.specs.Files.{State}
 use Rattle.nizwarf_tree.specs.declared.files.TheConstants.{OFFERS}

@@ -4,10 +4,10 @@ use Rattle.vfs_segments.specs.Written.{Written, whole}
 use Rattle.vfs_grammar.specs.declared.error.Error.{Error}
 use Rattle.vfs_server.specs.Step.{ServerState, IsStep, ReadsDirectories}
 use Rattle.vfs_files.specs.Calls.{Answer, Failed, Text}
-use Rattle.door_calls.specs.declared.call.CallData.{CallData}
-use Rattle.door_calls.specs.declared.data.AnswerData.{AnswerData}
-use Rattle.door_answer.specs.Fitting.{fits}
-use Rattle.door_ask.specs.Further.{What, Ordinary, Short, Row, Unnamed}
+use Rattle.codec_calls.specs.declared.call.CallData.{CallData}
+use Rattle.codec_calls.specs.declared.data.AnswerData.{AnswerData}
+use Rattle.codec_encode.specs.Fitting.{fits}
+use Rattle.codec_decode.specs.Further.{What, Ordinary, Short, Row, Unnamed}
 use Rattle.laws_flight.specs.OfferedTurns.{OfferedTurn, IsOfferedTurn, as_create}
 use Rattle.nizwarf_tree.specs.Files.{State, new_state, at_time, Allows, Gives, row_answer}
 use Rattle.nizwarf_tree.specs.Offered.{row_limits, what_asked}

@@ -9,11 +9,11 @@ use Rattle.vfs_grammar.specs.Forms.{Lists}
 use Rattle.vfs_grammar.specs.Listing.{Listing}
 use Rattle.vfs_grammar.specs.Reply.{Echo}
 use Rattle.vfs_grammar.specs.Samples.{eight, four, header_9, zeros}
-use Rattle.door_calls.specs.Shapes.{nothing}
-use Rattle.door_calls.specs.declared.call.CallData.{CallData}
-use Rattle.door_calls.specs.declared.call.kind.TheConstants as kind
-use Rattle.door_calls.specs.declared.call.number.TheConstants as number
-use Rattle.door_ask.specs.Further.{Ordinary}
+use Rattle.codec_calls.specs.Shapes.{nothing}
+use Rattle.codec_calls.specs.declared.call.CallData.{CallData}
+use Rattle.codec_calls.specs.declared.call.kind.TheConstants as kind
+use Rattle.codec_calls.specs.declared.call.number.TheConstants as number
+use Rattle.codec_decode.specs.Further.{Ordinary}
 use Rattle.laws_flight.specs.OfferedTurns.{OfferedTurn, IsOfferedTurn}
 use Rattle.vfs_server.specs.Step.{ServerState}
 use Rattle.c_rooms.specs.Codes.{ok, length_of, no_memory, outcome_code, too_long}
@@ -63,7 +63,7 @@ getflags_asked options room = record nothing {
   node = 1;
   «data» = record { at = 72; len = 0 };
   call = number.IOCTL;
-  answer = kind.TEXT;
+  answer = kind.BYTES;
   more = 0x80086601;
   size = 4;
 }

@@ -3,12 +3,12 @@
 
 ghost use Rattle.std.specs.Prelude.{◌≡◌, ◌≤◌, true, replicate, take, IfErr, IfOk, IfSome};
 ghost use Rattle.vfs_files.specs.Calls.{Failed, Text};
-ghost use Rattle.door_answer.specs.Fitting.{fits};
+ghost use Rattle.codec_encode.specs.Fitting.{fits};
 ghost use Rattle.nizwarf_tree.specs.Files.{new_state, at_time, row_answer};
 
 use crate::settings::{Settings, WRITEBACK};
-use door_ask::offers;
-use door_calls::{CallData, number};
+use codec_calls::{CallData, number};
+use codec_decode::offers;
 use fs_tree::{Capacity, Time, TreeFs};
 use std::alloc::Global;
 use vfs_flags::{Errno, GuestGid, GuestUid};

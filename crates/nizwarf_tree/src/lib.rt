@@ -52,7 +52,7 @@ use vfs_flags::{GREATEST_MAX_BUFFER, LEAST_MAX_BUFFER};
 /// or 10 where there is no memory, and 12 where a server can't be made for these sizes: then the
 /// handle is as it was.
 #[unsafe(no_mangle)]
-pub extern "C" fn nizwarf_new_at(
+pub extern "C" fn nizwarf_server_new_at(
     alloc: Global,
     handle: &mut Handle,
     page_size: u32,
@@ -77,7 +77,7 @@ pub extern "C" fn nizwarf_new_at(
     let Ok(made) = Box::new(alloc, instance) else {
         return OUT_OF_MEMORY;
     };
-    let _ = nizwarf_end_at(alloc, handle);
+    let _ = nizwarf_server_free_at(alloc, handle);
     handle.put(made);
     OK
 }
@@ -85,7 +85,7 @@ pub extern "C" fn nizwarf_new_at(
 /// Tells the file system the time since 1970: what is made, changed or read from now on bears it. It is a
 /// moment of the server's history, with no turn. Answers 0, or 11 where the handle has no server.
 #[unsafe(no_mangle)]
-pub extern "C" fn nizwarf_tell_time_at(
+pub extern "C" fn nizwarf_server_set_time_at(
     alloc: Global,
     handle: &mut Handle,
     seconds: u64,
@@ -107,7 +107,7 @@ pub extern "C" fn nizwarf_tell_time_at(
 }
 
 /// Answers the request in these segments, of which any may be empty. `room` is how many bytes there
-/// are for the reply. The reply stays with the server, for [`nizwarf_copy_at`], up to the next
+/// are for the reply. The reply stays with the server, for [`nizwarf_server_copy_at`], up to the next
 /// message; its length goes to `len`, and 0 where there is none.
 ///
 /// Answers the outcome's number: 0 where the request was answered or needs no reply, else the
@@ -122,7 +122,7 @@ pub extern "C" fn nizwarf_tell_time_at(
 /// all calls the books balance: entries answered and forgets accepted are entries delivered and forgets
 /// sent.
 #[unsafe(no_mangle)]
-pub extern "C" fn nizwarf_message_at(
+pub extern "C" fn nizwarf_server_handle_at(
     alloc: Global,
     handle: &mut Handle,
     request: &[&[u8]],
@@ -163,7 +163,7 @@ pub extern "C" fn nizwarf_message_at(
 /// whole room, which has the beginning of the reply, unless it has less than 16 bytes; and none
 /// after another error, or where the handle has no server.
 #[unsafe(no_mangle)]
-pub extern "C" fn nizwarf_copy_at(
+pub extern "C" fn nizwarf_server_copy_at(
     alloc: Global,
     handle: &mut Handle,
     at: usize,
@@ -187,14 +187,14 @@ pub extern "C" fn nizwarf_copy_at(
 }
 
 /// Takes the bytes that the last message left out of the server, with the memory in which they lie,
-/// and says where that is. They are those that [`nizwarf_copy_at`] would copy, and are not there for
+/// and says where that is. They are those that [`nizwarf_server_copy_at`] would copy, and are not there for
 /// it any more. They stay up to the next call with `taken`. What memory `taken` had is the server's
 /// then, so where it had some, none is wanted.
 ///
 /// Answers 0; 11 where the handle has no server, and 10 where there is no memory: then all is as it
 /// was.
 #[unsafe(no_mangle)]
-pub extern "C" fn nizwarf_take_at(
+pub extern "C" fn nizwarf_server_take_at(
     alloc: Global,
     handle: &mut Handle,
     taken: &mut Taken,
@@ -228,7 +228,7 @@ pub extern "C" fn nizwarf_take_at(
 /// Gives the memory back that was taken. There is none from then on. Answers 0, or 11 where there was
 /// none.
 #[unsafe(no_mangle)]
-pub extern "C" fn nizwarf_end_taken_at(alloc: Global, taken: &mut Taken) -> i32
+pub extern "C" fn nizwarf_reply_buf_free_at(alloc: Global, taken: &mut Taken) -> i32
     ensures ended { taken.new.value ≡ None }
     ensures code { MatchOption taken.old.value (result ≡ no_server) (λ _. result ≡ ok) }
 {
@@ -242,7 +242,7 @@ pub extern "C" fn nizwarf_end_taken_at(alloc: Global, taken: &mut Taken) -> i32
 /// The options that the last INIT agreed on, as INIT has them: `flags` are bits 0 to 31, `flags2`
 /// bits 32 to 63. 0 before an INIT, after a DESTROY, and where the handle has no server.
 #[unsafe(no_mangle)]
-pub extern "C" fn nizwarf_options_at(alloc: Global, handle: &mut Handle) -> u64
+pub extern "C" fn nizwarf_server_options_at(alloc: Global, handle: &mut Handle) -> u64
     ensures same { handle.new.value ≡ handle.old.value }
     ensures options { MatchOption handle.old.value (result ≡ 0) (λ s.
         result ≡ s.server.options) }
@@ -257,7 +257,7 @@ pub extern "C" fn nizwarf_options_at(alloc: Global, handle: &mut Handle) -> u64
 
 /// The largest payload of a request or a reply, in bytes, and 0 where the handle has no server.
 #[unsafe(no_mangle)]
-pub extern "C" fn nizwarf_max_buffer_at(alloc: Global, handle: &mut Handle) -> u32
+pub extern "C" fn nizwarf_server_max_buffer_at(alloc: Global, handle: &mut Handle) -> u32
     ensures same { handle.new.value ≡ handle.old.value }
     ensures largest { MatchOption handle.old.value (result ≡ 0) (λ s.
         result ≡ s.server.limits.max_buffer) }
@@ -273,7 +273,7 @@ pub extern "C" fn nizwarf_max_buffer_at(alloc: Global, handle: &mut Handle) -> u
 /// Ends the server, as a DESTROY does, and gives its memory back. The handle has none from then on.
 /// Answers 0, or 11 where it had none.
 #[unsafe(no_mangle)]
-pub extern "C" fn nizwarf_end_at(alloc: Global, handle: &mut Handle) -> i32
+pub extern "C" fn nizwarf_server_free_at(alloc: Global, handle: &mut Handle) -> i32
     ensures ended { handle.new.value ≡ None }
     ensures code { MatchOption handle.old.value (result ≡ no_server) (λ _. result ≡ ok) }
 

@@ -6,7 +6,7 @@ pub struct Memory {
     pub room: Vec<u8>,
 }
 
-/// Where the bytes of a reply lie, in the order of the header's `nizwarf_place`.
+/// Where the bytes of a reply lie, in the order of the header's `nizwarf_reply_range`.
 #[repr(C)]
 #[derive(Clone, Copy)]
 pub struct Place {

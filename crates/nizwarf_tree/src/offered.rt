@@ -3,15 +3,15 @@
 ghost use Rattle.std.specs.Prelude.{◌≡◌, ◌++◌, take, drop, IfOk, OnOk};
 ghost use Rattle.vfs_segments.specs.Segments.{segments_of, flat_bytes};
 ghost use Rattle.vfs_grammar.specs.Limits.{AreLimits};
-ghost use Rattle.door_calls.specs.declared.call.kind.TheConstants as kind;
-ghost use Rattle.door_ask.specs.Further.{Ordinary, Short, Tells, Unnamed, told_under};
-ghost use Rattle.door_ask.specs.declared.row.Further.TheVariants.{Ordinary as IsOrdinary, Row as IsRow, Short as IsShort, Unnamed as IsUnnamed};
+ghost use Rattle.codec_calls.specs.declared.call.kind.TheConstants as kind;
+ghost use Rattle.codec_decode.specs.Further.{Ordinary, Short, Tells, Unnamed, told_under};
+ghost use Rattle.codec_decode.specs.declared.row.Further.TheVariants.{Ordinary as IsOrdinary, Row as IsRow, Short as IsShort, Unnamed as IsUnnamed};
 ghost use Rattle.laws_flight.specs.OfferedTurns.{as_create};
 ghost use Rattle.nizwarf_tree.specs.Offered.{AsksRow, row_limits, what_asked};
 
 use crate::files::{Files, OFFERS};
-use door_ask::{Further, what};
-use door_calls::CallData;
+use codec_calls::CallData;
+use codec_decode::{Further, what};
 use std::alloc::{AllocError, Global};
 use vfs_flags::{GREATEST_MAX_BUFFER, LEAST_MAX_BUFFER};
 use vfs_grammar::Limits;
@@ -33,7 +33,7 @@ pub fn asked(server: &Server<Files>, request: &[&[u8]], room: usize, call: &mut 
         what_asked server.now.limits (flat_bytes (segments_of request.now)) ≡ Unnamed }
     ensures row { result ≡ IsRow →
         AsksRow server.now room (flat_bytes (segments_of request.now)) call.new }
-    ensures text { result ≡ IsRow → call.new.answer ≡ kind.TEXT }
+    ensures text { result ≡ IsRow → call.new.answer ≡ kind.BYTES }
     ensures room { result ≡ IsRow → call.new.room ≡ room }
 {
     tell(server, request, room, call)

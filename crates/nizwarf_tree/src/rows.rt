@@ -1,20 +1,20 @@
 //! How requests of rows are answered.
 
-ghost use Rattle.std.specs.Prelude.{◌≡◌, ◌≢◌, ◌⊎◌, ℕ, List, drop};
-ghost use Rattle.door_calls.specs.declared.call.kind.TheConstants as kind;
-ghost use Rattle.door_ask.specs.Further.{Short};
+ghost use Rattle.std.specs.Prelude.{◌≡◌, ◌≢◌, ℕ, List};
+ghost use Rattle.codec_calls.specs.declared.call.kind.TheConstants as kind;
+ghost use Rattle.codec_decode.specs.Further.{Short};
 ghost use Rattle.nizwarf_tree.specs.Files.{row_answer};
 ghost use Rattle.c_rooms.specs.Codes.{no_memory, too_long};
-ghost use Rattle.nizwarf_tree.specs.Kept.{KeepsFor};
+ghost use Rattle.nizwarf_tree.specs.Kept.{KeepsFor, RowOrNot};
 ghost use Rattle.nizwarf_tree.specs.Offered.{AsksRow, what_asked};
-ghost use Rattle.nizwarf_tree.specs.Served.{Refused, RowInC, SaysText};
+ghost use Rattle.nizwarf_tree.specs.Served.{SaysText};
 
 use crate::files::{MOST_TEXT, answer_row};
 use crate::instance::Instance;
 use crate::offered::row_limits;
 use c_rooms::codes::OUT_OF_MEMORY;
-use door_answer::answer_offered;
-use door_calls::{AnswerData, CallData};
+use codec_calls::{AnswerData, CallData};
+use codec_encode::answer_offered;
 use laws_flight::laws::{
     a_short_request_is_one_offered_turn, asked_and_answered_is_one_offered_turn,
 };
@@ -24,13 +24,10 @@ use vfs_grammar::Error;
 impl Instance {
     /// Answers a call of a row, as the file system does.
     pub fn answer_row(&mut self, alloc: Global, call: &CallData, total: usize) -> (i32, usize)
-        requires text { call.now.answer ≡ kind.TEXT }
+        requires text { call.now.answer ≡ kind.BYTES }
         requires room { call.now.room ≡ total }
         ensures served { (request : List ℕ) → AsksRow self.old.server total request call.now →
-            RowInC self.old.server request total
-            result.0 result.1 (drop self.new.start self.new.room.items) self.new.shown
-            self.new.server
-            ⊎ Refused self.old.server request result.0 result.1 self.new.shown self.new.server }
+            RowOrNot self.old self.new request total result.0 result.1 }
         ensures keeps { (n : ℕ) → KeepsFor n self.old → KeepsFor n self.new }
         ensures kept { result.0 ≢ no_memory → result.0 ≢ too_long → KeepsFor total self.new }
     {
@@ -56,14 +53,11 @@ impl Instance {
         text: &[u8],
         total: usize,
     ) -> (i32, usize)
-        requires text { call.now.answer ≡ kind.TEXT }
+        requires text { call.now.answer ≡ kind.BYTES }
         requires room { call.now.room ≡ total }
         ensures served { (request : List ℕ) → AsksRow self.old.server total request call.now →
             SaysText call.now answer.now text.now (row_answer self.old.server.fs call.now) →
-            RowInC self.old.server request total
-            result.0 result.1 (drop self.new.start self.new.room.items) self.new.shown
-            self.new.server
-            ⊎ Refused self.old.server request result.0 result.1 self.new.shown self.new.server }
+            RowOrNot self.old self.new request total result.0 result.1 }
         ensures keeps { (n : ℕ) → KeepsFor n self.old → KeepsFor n self.new }
         ensures kept { result.0 ≢ no_memory → result.0 ≢ too_long → KeepsFor total self.new }
     {
@@ -85,10 +79,7 @@ impl Instance {
     /// Refuses a request of a row whose record, or what it says that follows, is cut.
     pub fn refuse_short(&mut self, alloc: Global, total: usize) -> (i32, usize)
         ensures served { (request : List ℕ) → what_asked self.old.server.limits request ≡ Short →
-            RowInC self.old.server request total
-            result.0 result.1 (drop self.new.start self.new.room.items) self.new.shown
-            self.new.server
-            ⊎ Refused self.old.server request result.0 result.1 self.new.shown self.new.server }
+            RowOrNot self.old self.new request total result.0 result.1 }
         ensures keeps { (n : ℕ) → KeepsFor n self.old → KeepsFor n self.new }
         ensures kept { result.0 ≢ no_memory → result.0 ≢ too_long → KeepsFor total self.new }
     {

@@ -1,6 +1,6 @@
 //! What C sets of a file system.
 
-/// What C says of a new one, in the order of the header's `nizwarf_settings`. A library over another
+/// What C says of a new one, in the order of the header's `nizwarf_server_config`. A library over another
 /// file system takes of it what it wants.
 #[repr(C)]
 #[derive(Clone, Copy)]

@@ -3,7 +3,3 @@
 
 mod laws;
 mod uses;
-mod uses_kept;
-mod uses_rows;
-mod uses_taken;
-mod uses_tmpfile;

@@ -3,8 +3,8 @@
 ghost use Rattle.std.specs.Prelude.{◌≡◌, ◌≢◌, ◌≤◌, ◌^◌, ℕ, ℤ, List, [], ◌∷◌, MatchOption, length, map};
 ghost use Rattle.vfs_segments.specs.Segments.{segments_of, flat_bytes};
 ghost use Rattle.vfs_server.specs.Step.{ServerState};
-ghost use Rattle.door_calls.specs.declared.call.CallData.{CallData};
-ghost use Rattle.door_ask.specs.Further.{Ordinary, Row, Short, Unnamed};
+ghost use Rattle.codec_calls.specs.declared.call.CallData.{CallData};
+ghost use Rattle.codec_decode.specs.Further.{Ordinary, Row, Short, Unnamed};
 ghost use Rattle.laws_flight.specs.OfferedTurns.{as_create};
 ghost use Rattle.laws_history.specs.History.{Moment, turns_in};
 ghost use Rattle.c_rooms.specs.Codes.{no_memory, ok, too_long};
@@ -16,7 +16,7 @@ ghost use Rattle.nizwarf_tree.specs.Served.{Refused, new_server};
 use crate::files::Files;
 use crate::handle::Handle;
 use crate::settings::Settings;
-use crate::{nizwarf_message_at, nizwarf_new_at, nizwarf_tell_time_at};
+use crate::{nizwarf_server_handle_at, nizwarf_server_new_at, nizwarf_server_set_time_at};
 use c_rooms::codes::OK;
 use laws_history::laws::history_keeps_books;
 use std::alloc::Global;
@@ -58,18 +58,18 @@ fn two_messages(
         s.server) }
 {
     history_keeps_books::<Files>();
-    let made = nizwarf_new_at(alloc, handle, 4096, 1_048_576, settings);
+    let made = nizwarf_server_new_at(alloc, handle, 4096, 1_048_576, settings);
     if made != OK {
         return made;
     }
     let mut len = 0;
-    let _ = nizwarf_tell_time_at(alloc, handle, 1, 0);
-    let first = nizwarf_message_at(alloc, handle, one, 4096, &mut len);
+    let _ = nizwarf_server_set_time_at(alloc, handle, 1, 0);
+    let first = nizwarf_server_handle_at(alloc, handle, one, 4096, &mut len);
     if first != OK {
         return first;
     }
-    let _ = nizwarf_tell_time_at(alloc, handle, 2, 0);
-    nizwarf_message_at(alloc, handle, two, 4096, &mut len)
+    let _ = nizwarf_server_set_time_at(alloc, handle, 2, 0);
+    nizwarf_server_handle_at(alloc, handle, two, 4096, &mut len)
 }
 
 /// Has a server handle two messages with the same room. If the first is answered, the second lacks no memory, if whatever
@@ -86,9 +86,12 @@ fn second_lacks_no_memory(
     requires none { (server : ServerState State) → WantsNone server room (segments_of two.now) }
     ensures { result.0 ≡ ok → result.1 ≢ no_memory }
 {
-    let first = nizwarf_message_at(alloc, handle, one, room, len);
+    let first = nizwarf_server_handle_at(alloc, handle, one, room, len);
     if first != OK {
         return (first, OK);
     }
-    (first, nizwarf_message_at(alloc, handle, two, room, len))
+    (
+        first,
+        nizwarf_server_handle_at(alloc, handle, two, room, len),
+    )
 }

@@ -3,7 +3,7 @@ use Rattle.std.proofs.Common.{◌≡◌, ℕ, List, Option, Result, Ok, Err, Vec
 use Rattle.std.specs.declared.alloc.Global.{Global}
 use Rattle.std.specs.declared.time.Duration.{Duration}
 use Rattle.vfs_flags.specs.declared.fs_options.FsOptions.{FsOptions}
-use Rattle.vfs_flags.specs.declared.open_options.OpenOptions.{OpenOptions}
+use Rattle.vfs_flags.specs.declared.flag_sets.OpenOptions.{OpenOptions}
 use Rattle.vfs_wire.specs.declared.attributes.Attr.{Attr}
 use Rattle.vfs_wire.specs.declared.stat.Statvfs64.{Statvfs64}
 use Rattle.vfs_files.specs.declared.xattr.GetxattrReply.{GetxattrReply}

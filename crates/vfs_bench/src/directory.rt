@@ -4,12 +4,13 @@ ghost use Rattle.std.specs.Prelude.{◌≡◌, [], IfOk, IfErr, if◌then◌else
 ghost use Rattle.vfs_files.specs.Calls.{out_of_memory};
 ghost use Rattle.vfs_bench.specs.Directories.{items_said};
 
+use crate::Said;
 use std::alloc::Global;
 use std::cell::Cell;
 use std::marker::Model;
 use std::rc::Rc;
 use vfs_files::{CString, DirEntry, DirectoryIterator};
-use vfs_flags::{Errno, Fault};
+use vfs_flags::Errno;
 
 /// An item of a directory.
 #[derive(Drop)]
@@ -57,7 +58,7 @@ impl Model for ScriptDirectory {
 
 impl ScriptDirectory {
     /// A directory of these items, which ends after the last. Want of memory is ENOMEM.
-    pub fn new(alloc: Global, items: Vec<ScriptItem>) -> Result<ScriptDirectory, Fault>
+    pub fn new(alloc: Global, items: Vec<ScriptItem>) -> Said<ScriptDirectory>
         ensures made { IfOk result (λ directory. directory ≡ record {
           left = items_said items.items;
           again = [];
@@ -69,7 +70,7 @@ impl ScriptDirectory {
 
     /// A directory without end: after the last item the first one comes again. Without an item it
     /// ends all the same. Want of memory is ENOMEM.
-    pub fn endless(alloc: Global, items: Vec<ScriptItem>) -> Result<ScriptDirectory, Fault>
+    pub fn endless(alloc: Global, items: Vec<ScriptItem>) -> Said<ScriptDirectory>
         ensures made { IfOk result (λ directory. directory ≡ record {
           left = items_said items.items;
           again = items_said items.items;
@@ -80,7 +81,7 @@ impl ScriptDirectory {
     }
 
     /// The directory, which need not end.
-    fn of(alloc: Global, items: Vec<ScriptItem>, endless: bool) -> Result<ScriptDirectory, Fault>
+    fn of(alloc: Global, items: Vec<ScriptItem>, endless: bool) -> Said<ScriptDirectory>
         ensures made { IfOk result (λ directory. directory ≡ record {
           left = items_said items.items;
           again = if endless then items_said items.items else [];
@@ -105,7 +106,7 @@ impl ScriptDirectory {
     }
 
     /// A reading from the first item on. Want of memory is ENOMEM.
-    pub fn entries(&self) -> Result<ScriptEntries, Fault>
+    pub fn entries(&self) -> Said<ScriptEntries>
         ensures begun { IfOk result (λ entries. entries ≡ self.now) }
         ensures memory { IfErr result (λ fault. fault ≡ out_of_memory) }
     {

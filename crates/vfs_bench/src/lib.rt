@@ -12,6 +12,11 @@ mod recorder;
 mod script;
 pub mod seeded;
 
+use vfs_flags::Fault;
+
+/// What a call comes to: its answer, or its fault.
+pub type Said<T> = Result<T, Fault>;
+
 pub use directory::{ScriptDirectory, ScriptEntries, ScriptItem};
 pub use file::ScriptFile;
 pub use note::{Note, NoteKind};

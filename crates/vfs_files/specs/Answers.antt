@@ -4,7 +4,7 @@ use Rattle.std.specs.declared.alloc.Global.{Global}
 use Rattle.std.specs.declared.time.Duration.{Duration}
 use Rattle.vfs_flags.specs.Flags.{fs_options_bits, open_options_bits}
 use Rattle.vfs_flags.specs.declared.fs_options.FsOptions.{FsOptions}
-use Rattle.vfs_flags.specs.declared.open_options.OpenOptions.{OpenOptions}
+use Rattle.vfs_flags.specs.declared.flag_sets.OpenOptions.{OpenOptions}
 use Rattle.vfs_wire.specs.Fields.{Fit}
 use Rattle.vfs_wire.specs.Records.{attr, attr_out, entry_out, kstatfs, kstatfs_of}
 use Rattle.vfs_wire.specs.declared.attributes.Attr.{Attr}

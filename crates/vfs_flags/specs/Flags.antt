@@ -2,12 +2,12 @@
 -- `tests/c/kernel.py` compiles SETXATTR_EXT, INIT_EXT and SECURITY_CTX against the kernel's header.
 use Rattle.std.specs.Prelude.{ℕ, ◌+◌, ◌^◌, ◌==◌, Bool, bit_and, not}
 use Rattle.vfs_flags.specs.declared.fs_options.FsOptions.{FsOptions}
-use Rattle.vfs_flags.specs.declared.setattr_valid.SetattrValid.{SetattrValid}
-use Rattle.vfs_flags.specs.declared.open_options.OpenOptions.{OpenOptions}
-use Rattle.vfs_flags.specs.declared.ioctl_flags.IoctlFlags.{IoctlFlags}
-use Rattle.vfs_flags.specs.declared.setxattr_flags.SetxattrFlags.{SetxattrFlags}
-use Rattle.vfs_flags.specs.declared.notify_inval_entry_out_flags.NotifyInvalEntryOutFlags.{NotifyInvalEntryOutFlags}
-use Rattle.vfs_flags.specs.declared.setupmapping_flags.SetupmappingFlags.{SetupmappingFlags}
+use Rattle.vfs_flags.specs.declared.flag_sets.SetattrValid.{SetattrValid}
+use Rattle.vfs_flags.specs.declared.flag_sets.OpenOptions.{OpenOptions}
+use Rattle.vfs_flags.specs.declared.flag_sets.IoctlFlags.{IoctlFlags}
+use Rattle.vfs_flags.specs.declared.flag_sets.SetxattrFlags.{SetxattrFlags}
+use Rattle.vfs_flags.specs.declared.flag_sets.NotifyInvalEntryOutFlags.{NotifyInvalEntryOutFlags}
+use Rattle.vfs_flags.specs.declared.flag_sets.SetupmappingFlags.{SetupmappingFlags}
 
 -- whether a word of flags, or a set of options, has one of these: the test of every flag and option
 abbrev pub has_flag : (flags flag : ℕ) → Bool

@@ -5,18 +5,13 @@ mod constants;
 mod errno;
 mod ext_type;
 mod flag_list;
+mod flag_sets;
 mod fs_options;
 mod ids;
-mod ioctl_flags;
 pub mod laws;
 mod modes;
-mod notify_inval_entry_out_flags;
 mod notify_opcode;
 mod opcode;
-mod open_options;
-mod setattr_valid;
-mod setupmapping_flags;
-mod setxattr_flags;
 
 pub use constants::{
     ATTR_DAX, ATTR_SUBMOUNT, DEFAULT_MAX_BUFFER, FATTR_FH, FATTR_LOCKOWNER, FSYNC_FDATASYNC,
@@ -30,16 +25,14 @@ pub use constants::{
 };
 pub use errno::{Errno, Fault};
 pub use ext_type::ExtType;
+pub use flag_sets::{
+    IoctlFlags, NotifyInvalEntryOutFlags, OpenOptions, SetattrValid, SetupmappingFlags,
+    SetxattrFlags,
+};
 pub use fs_options::FsOptions;
 pub use ids::{GuestGid, GuestUid, HostGid, HostUid};
-pub use ioctl_flags::IoctlFlags;
 pub use modes::{
     DT_DIR, DT_LNK, DT_REG, S_IFBLK, S_IFCHR, S_IFDIR, S_IFIFO, S_IFLNK, S_IFMT, S_IFREG, S_IFSOCK,
 };
-pub use notify_inval_entry_out_flags::NotifyInvalEntryOutFlags;
 pub use notify_opcode::NotifyOpcode;
 pub use opcode::Opcode;
-pub use open_options::OpenOptions;
-pub use setattr_valid::SetattrValid;
-pub use setupmapping_flags::SetupmappingFlags;
-pub use setxattr_flags::SetxattrFlags;

@@ -58,37 +58,32 @@ init_7_45 =
 abbrev pub init_front : List ℕ
 init_front = four 80 ++ (four 0 ++ (eight 1 ++ (four 7 ++ four 38)))
 
+-- such a reply that agrees on INIT_EXT, a nanosecond and 256 pages: with how many bytes are read ahead, how many
+-- requests wait and from which on it is held back, how many bytes are written at once, and what is after these
+abbrev pub init_reply : (readahead background write more : List ℕ) → List ℕ
+init_reply readahead background write more =
+    init_front
+    ++ (readahead
+    ++ ((0 ∷ 0 ∷ 0 ∷ 0x40 ∷ []) ++ (background ++ (write ++ (four 1 ++ ((0 ∷ 1 ∷ 0 ∷ 0 ∷ []) ++ more))))))
+
 -- the reply that agrees on INIT_EXT alone: 131072 bytes are read ahead, 65535 requests wait, from 49149 on it is
--- held back, 1048576 bytes are written at once, a nanosecond, 256 pages
+-- held back, 1048576 bytes are written at once
 abbrev pub agreed_on_init_ext : List ℕ
 agreed_on_init_ext =
-    init_front
-    ++ ((0 ∷ 0 ∷ 2 ∷ 0 ∷ [])
-    ++ ((0 ∷ 0 ∷ 0 ∷ 0x40 ∷ [])
-    ++ ((0xff ∷ 0xff ∷ 0xfd ∷ 0xbf ∷ [])
-    ++ ((0 ∷ 0 ∷ 0x10 ∷ 0 ∷ []) ++ (four 1 ++ ((0 ∷ 1 ∷ 0 ∷ 0 ∷ []) ++ zeros 32))))))
+    init_reply (0 ∷ 0 ∷ 2 ∷ 0 ∷ []) (0xff ∷ 0xff ∷ 0xfd ∷ 0xbf ∷ []) (0 ∷ 0 ∷ 0x10 ∷ 0 ∷ []) (zeros 32)
 
 -- the same, with 65536 bytes read ahead, 12 requests that wait, 4096 bytes written at once, PASSTHROUGH (bit 5
 -- of flags2) and a depth of 2
 abbrev pub agreed_on_passthrough : List ℕ
 agreed_on_passthrough =
-    init_front
-    ++ ((0 ∷ 0 ∷ 1 ∷ 0 ∷ [])
-    ++ ((0 ∷ 0 ∷ 0 ∷ 0x40 ∷ [])
-    ++ ((12 ∷ 0 ∷ 0xfd ∷ 0xbf ∷ [])
-    ++ ((0 ∷ 0x10 ∷ 0 ∷ 0 ∷ [])
-    ++ (four 1 ++ ((0 ∷ 1 ∷ 0 ∷ 0 ∷ []) ++ (four 0x20 ++ (four 2 ++ zeros 24))))))))
+    init_reply (0 ∷ 0 ∷ 1 ∷ 0 ∷ []) (12 ∷ 0 ∷ 0xfd ∷ 0xbf ∷ []) (0 ∷ 0x10 ∷ 0 ∷ 0 ∷ [])
+    (four 0x20 ++ (four 2 ++ zeros 24))
 
 -- the same as agreed_on_init_ext, with REQUEST_TIMEOUT (bit 10 of flags2) and the most seconds
 abbrev pub agreed_on_timeout : List ℕ
 agreed_on_timeout =
-    init_front
-    ++ ((0 ∷ 0 ∷ 2 ∷ 0 ∷ [])
-    ++ ((0 ∷ 0 ∷ 0 ∷ 0x40 ∷ [])
-    ++ ((0xff ∷ 0xff ∷ 0xfd ∷ 0xbf ∷ [])
-    ++ ((0 ∷ 0 ∷ 0x10 ∷ 0 ∷ [])
-    ++ (four 1
-    ++ ((0 ∷ 1 ∷ 0 ∷ 0 ∷ []) ++ ((0 ∷ 4 ∷ 0 ∷ 0 ∷ []) ++ (four 0 ++ ((0xff ∷ 0xff ∷ 0 ∷ 0 ∷ []) ++ zeros 20)))))))))
+    init_reply (0 ∷ 0 ∷ 2 ∷ 0 ∷ []) (0xff ∷ 0xff ∷ 0xfd ∷ 0xbf ∷ []) (0 ∷ 0 ∷ 0x10 ∷ 0 ∷ [])
+    ((0 ∷ 4 ∷ 0 ∷ 0 ∷ []) ++ (four 0 ++ ((0xff ∷ 0xff ∷ 0 ∷ 0 ∷ []) ++ zeros 20)))
 
 -- the reply to request 1 of a later major version: 7.38 alone
 abbrev pub version_alone : List ℕ

@@ -7,6 +7,8 @@ use crate::notices::{
     put_delete, put_inc_epoch, put_inval_entry, put_inval_inode, put_poll, put_prune, put_resend,
     put_retrieve, put_store,
 };
+use bitflags::Flags;
+use vfs_flags::NotifyInvalEntryOutFlags;
 
 /// The attributes of node 5 are old, and none of its bytes.
 #[tactic(auto, unfolding(vfs_wire::specs::Fields::little))]
@@ -25,7 +27,7 @@ fn name_is_old(out: &mut [u8]) -> usize
     ensures len { result ≡ 34 }
     ensures bytes { out.new ≡ a_is_old }
 {
-    put_inval_entry(1, 1, b"a", out)
+    put_inval_entry(1, NotifyInvalEntryOutFlags::EXPIRE_ONLY.bits(), b"a", out)
 }
 
 /// 3 bytes of node 5 follow, from 4096 on.
@@ -48,22 +50,22 @@ fn bytes_are_wanted(out: &mut [u8]) -> usize
     put_retrieve(7, 5, 4096, 3, out)
 }
 
-/// The name `a` in node 1, which was node 5, is gone.
+/// The name `a` in node 1, which was node 5, is gone; what follows in the piece stays.
 #[tactic(auto, unfolding(vfs_wire::specs::Fields::little))]
 fn name_is_gone(out: &mut [u8]) -> usize
-    requires { length out.old ≡ 42 }
+    requires { 42 ≤ length out.old }
     ensures len { result ≡ 42 }
-    ensures bytes { out.new ≡ a_is_gone }
+    ensures bytes { out.new ≡ a_is_gone ++ drop 42 out.old }
 {
     put_delete(1, 5, b"a", out)
 }
 
-/// The numbers of two nodes follow.
+/// The numbers of two nodes follow, by what is in the piece already.
 #[tactic(auto, unfolding(vfs_wire::specs::Fields::little))]
 fn nodes_follow(out: &mut [u8]) -> usize
-    requires { length out.old ≡ 32 }
+    requires { 32 ≤ length out.old }
     ensures len { result ≡ 32 }
-    ensures bytes { out.new ≡ two_nodes_follow }
+    ensures bytes { out.new ≡ two_nodes_follow ++ drop 32 out.old }
 {
     put_prune(2, out)
 }

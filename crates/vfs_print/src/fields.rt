@@ -1,7 +1,7 @@
 //! Records, taken off the front of a message and printed field by field.
 
 use crate::flags::{Name, Word};
-use crate::stop::Stop;
+use crate::stop::{Left, Stop};
 use crate::take::take_record;
 use crate::text::{Octal, Time};
 use std::fmt::{self, Display, Formatter, Write};
@@ -65,16 +65,13 @@ pub fn print_record<'a, T: Fields, W: Write>(
 }
 
 /// Prints a record that nothing follows; what is left after it.
-pub fn print_alone<'a, T: Fields, W: Write>(w: &mut W, bytes: &'a [u8]) -> Result<&'a [u8], Stop> {
+pub fn print_alone<'a, T: Fields, W: Write>(w: &mut W, bytes: &'a [u8]) -> Left<'a> {
     let (_, following) = print_record::<T, W>(w, bytes)?;
     Ok(following)
 }
 
 /// The same of a record that a server doesn't look at, if it is there.
-pub fn print_if_whole<'a, T: Fields, W: Write>(
-    w: &mut W,
-    bytes: &'a [u8],
-) -> Result<&'a [u8], Stop> {
+pub fn print_if_whole<'a, T: Fields, W: Write>(w: &mut W, bytes: &'a [u8]) -> Left<'a> {
     if bytes.len() < T::SIZE {
         return Ok(bytes);
     }

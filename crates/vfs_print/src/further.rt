@@ -5,15 +5,13 @@ ghost use Rattle.std.specs.Prelude.{◌+◌, ◌≤◌, length};
 
 use crate::fields::Value::{self, Hex, Number, Octal, Small, Time, Timeout};
 use crate::fields::{print_alone, print_fields, print_if_whole, print_record};
-use crate::request::print_named;
-use crate::stop::Stop;
+use crate::stop::{Left, Stop};
 use crate::take::{take_bytes, take_record};
 use crate::text::print_data;
 use std::fmt::{self, Write};
-use vfs_flags::FsOptions;
+use vfs_wire::ByteValued;
 use vfs_wire::bytes::{u16_at, u32_at, u64_at};
-use vfs_wire::{ByteValued, InHeader};
-use vfs_wire_more::{CopyfilerangeIn, CreateIn, IoctlIn, IoctlOut, NotifyRetrieveIn, StatxIn};
+use vfs_wire_more::{CopyfilerangeIn, IoctlIn, IoctlOut, NotifyRetrieveIn, StatxIn};
 
 /// The number of STATX.
 const STATX: u32 = 52;
@@ -34,11 +32,7 @@ pub fn print_number<W: Write>(w: &mut W, number: u32) -> fmt::Result {
 }
 
 /// Prints what comes after the header of a request with such an opcode; what is left after that.
-pub fn print_further_parts<'a, W: Write>(
-    w: &mut W,
-    number: u32,
-    bytes: &'a [u8],
-) -> Result<&'a [u8], Stop> {
+pub fn print_further_parts<'a, W: Write>(w: &mut W, number: u32, bytes: &'a [u8]) -> Left<'a> {
     match number {
         STATX => print_if_whole::<StatxIn, W>(w, bytes),
         COPY_FILE_RANGE_64 => print_if_whole::<CopyfilerangeIn, W>(w, bytes),
@@ -47,11 +41,7 @@ pub fn print_further_parts<'a, W: Write>(
 }
 
 /// Prints what comes after the header of the reply to one; what is left after that.
-pub fn print_further_answer<'a, W: Write>(
-    w: &mut W,
-    number: u32,
-    body: &'a [u8],
-) -> Result<&'a [u8], Stop> {
+pub fn print_further_answer<'a, W: Write>(w: &mut W, number: u32, body: &'a [u8]) -> Left<'a> {
     match number {
         STATX => print_statx(w, body),
         COPY_FILE_RANGE_64 => print_copied(w, body),
@@ -60,7 +50,7 @@ pub fn print_further_answer<'a, W: Write>(
 }
 
 /// The record of IOCTL, and the `in_size` bytes after it, if they are there.
-pub fn print_ioctl<'a, W: Write>(w: &mut W, bytes: &'a [u8]) -> Result<&'a [u8], Stop> {
+pub fn print_ioctl<'a, W: Write>(w: &mut W, bytes: &'a [u8]) -> Left<'a> {
     if bytes.len() < IoctlIn::SIZE {
         return Ok(bytes);
     }
@@ -69,7 +59,7 @@ pub fn print_ioctl<'a, W: Write>(w: &mut W, bytes: &'a [u8]) -> Result<&'a [u8],
 }
 
 /// The record of NOTIFY_REPLY, and the `size` bytes after it, if they are there.
-pub fn print_notify_reply<'a, W: Write>(w: &mut W, bytes: &'a [u8]) -> Result<&'a [u8], Stop> {
+pub fn print_notify_reply<'a, W: Write>(w: &mut W, bytes: &'a [u8]) -> Left<'a> {
     if bytes.len() < NotifyRetrieveIn::SIZE {
         return Ok(bytes);
     }
@@ -78,7 +68,7 @@ pub fn print_notify_reply<'a, W: Write>(w: &mut W, bytes: &'a [u8]) -> Result<&'
 }
 
 /// `size` bytes of data, if there are to be any, and all of them are there.
-fn print_sized<'a, W: Write>(w: &mut W, size: u32, bytes: &'a [u8]) -> Result<&'a [u8], Stop> {
+fn print_sized<'a, W: Write>(w: &mut W, size: u32, bytes: &'a [u8]) -> Left<'a> {
     if size == 0 {
         return Ok(bytes);
     }
@@ -91,21 +81,8 @@ fn print_sized<'a, W: Write>(w: &mut W, size: u32, bytes: &'a [u8]) -> Result<&'
     }
 }
 
-/// The parts of TMPFILE, which are those of CREATE, if its record is there.
-pub fn print_tmpfile<'a, W: Write>(
-    w: &mut W,
-    header: &InHeader,
-    options: FsOptions,
-    bytes: &'a [u8],
-) -> Result<&'a [u8], Stop> {
-    if bytes.len() < CreateIn::SIZE {
-        return Ok(bytes);
-    }
-    print_named::<CreateIn, W>(w, header, options, bytes)
-}
-
 /// The record of the reply to IOCTL, and what is handed out after it.
-pub fn print_handed_out<'a, W: Write>(w: &mut W, body: &'a [u8]) -> Result<&'a [u8], Stop> {
+pub fn print_handed_out<'a, W: Write>(w: &mut W, body: &'a [u8]) -> Left<'a> {
     let following = print_alone::<IoctlOut, W>(w, body)?;
     if !following.is_empty() {
         print_data(w, "data", following)?;
@@ -114,14 +91,14 @@ pub fn print_handed_out<'a, W: Write>(w: &mut W, body: &'a [u8]) -> Result<&'a [
 }
 
 /// The record of the reply to COPY_FILE_RANGE_64 (`struct fuse_copy_file_range_out`).
-fn print_copied<'a, W: Write>(w: &mut W, body: &'a [u8]) -> Result<&'a [u8], Stop> {
+fn print_copied<'a, W: Write>(w: &mut W, body: &'a [u8]) -> Left<'a> {
     let (bytes_copied, following) = take_record::<u64>(body)?;
     write!(w, " bytes_copied={bytes_copied}")?;
     Ok(following)
 }
 
 /// The record of the reply to STATX (`struct fuse_statx_out`).
-fn print_statx<'a, W: Write>(w: &mut W, body: &'a [u8]) -> Result<&'a [u8], Stop> {
+fn print_statx<'a, W: Write>(w: &mut W, body: &'a [u8]) -> Left<'a> {
     let (out, following) = take_bytes(body, STATX_OUT_SIZE)?;
     print_fields(
         w,
@@ -140,8 +117,7 @@ fn print_stat<W: Write>(w: &mut W, out: &[u8]) -> fmt::Result
 {
     print_stat_owner(w, out)?;
     print_stat_size(w, out)?;
-    print_stat_times(w, out)?;
-    print_stat_devices(w, out)
+    print_stat_times_and_devices(w, out)
 }
 
 /// The fields up to the mode.
@@ -177,8 +153,8 @@ fn print_stat_size<W: Write>(w: &mut W, out: &[u8]) -> fmt::Result
     )
 }
 
-/// The times.
-fn print_stat_times<W: Write>(w: &mut W, out: &[u8]) -> fmt::Result
+/// The times, the device that a node is, and the one that it is on.
+fn print_stat_times_and_devices<W: Write>(w: &mut W, out: &[u8]) -> fmt::Result
     requires { 288 ≤ length out.now }
 {
     print_fields(
@@ -188,17 +164,6 @@ fn print_stat_times<W: Write>(w: &mut W, out: &[u8]) -> fmt::Result
             ("btime", time_at(out, 112)),
             ("ctime", time_at(out, 128)),
             ("mtime", time_at(out, 144)),
-        ],
-    )
-}
-
-/// The device that a node is, and the one that it is on.
-fn print_stat_devices<W: Write>(w: &mut W, out: &[u8]) -> fmt::Result
-    requires { 288 ≤ length out.now }
-{
-    print_fields(
-        w,
-        &[
             ("rdev_major", Small(u32_at(out, 160))),
             ("rdev_minor", Small(u32_at(out, 164))),
             ("dev_major", Small(u32_at(out, 168))),

@@ -18,7 +18,6 @@ use crate::flags::Word;
 use crate::further::print_handed_out;
 use crate::further::print_ioctl;
 use crate::further::print_notify_reply;
-use crate::further::print_tmpfile;
 use crate::reply::asks_length;
 use crate::reply::print_created;
 use crate::request::print_init;
@@ -28,8 +27,10 @@ use crate::request::print_named;
 use crate::request::print_pairs;
 use crate::request::print_record_and_name;
 use crate::request::print_setxattr;
+use crate::request::print_tmpfile;
 use crate::request::print_two_names;
 use crate::request::print_write;
+use crate::stop::Left;
 use crate::stop::Stop;
 use crate::text::Octal;
 use crate::text::print_data;
@@ -167,7 +168,7 @@ pub fn print_parts<'a, W: Write>(
     header: &InHeader,
     options: FsOptions,
     bytes: &'a [u8],
-) -> Result<&'a [u8], Stop> {
+) -> Left<'a> {
     match opcode {
         Opcode::Lookup | Opcode::Unlink | Opcode::Rmdir | Opcode::Removexattr => {
             print_name(w, header, 0, bytes)
@@ -216,7 +217,7 @@ pub fn print_answer<'a, W: Write>(
     opcode: Opcode,
     record: &[u8],
     body: &'a [u8],
-) -> Result<&'a [u8], Stop> {
+) -> Left<'a> {
     match opcode {
         Opcode::Lookup | Opcode::Symlink | Opcode::Mknod | Opcode::Mkdir | Opcode::Link => {
             print_alone::<EntryOut, W>(w, body)
@@ -240,7 +241,7 @@ pub fn print_answer<'a, W: Write>(
 }
 
 /// Prints the body of a reply that is no record, to its end, if there is one.
-fn print_bytes<'a, W: Write>(w: &mut W, opcode: Opcode, body: &'a [u8]) -> Result<&'a [u8], Stop> {
+fn print_bytes<'a, W: Write>(w: &mut W, opcode: Opcode, body: &'a [u8]) -> Left<'a> {
     match opcode {
         Opcode::Read => print_data(w, "data", body)?,
         Opcode::Getxattr => print_data(w, "value", body)?,

@@ -5,7 +5,7 @@ ghost use Rattle.std.specs.Prelude.{◌≡◌, ◌<◌, OnOk, codes, length};
 use crate::fields::print_alone;
 use crate::further::print_further_answer;
 use crate::opcodes::{options_of, print_answer};
-use crate::stop::{Stop, print_end};
+use crate::stop::{Left, print_end};
 use crate::take::take_record;
 use bitflags::Flags;
 use std::fmt::{self, Write};
@@ -71,7 +71,7 @@ fn opcode_of(request: &[u8]) -> Option<(Opcode, &[u8])> {
 }
 
 /// Prints what comes after the header of a reply; what is left after that.
-fn print_body<'a, W: Write>(w: &mut W, request: &[u8], body: &'a [u8]) -> Result<&'a [u8], Stop> {
+fn print_body<'a, W: Write>(w: &mut W, request: &[u8], body: &'a [u8]) -> Left<'a> {
     let Some((number, record)) = number_of(request) else {
         return Ok(body);
     };
@@ -82,7 +82,7 @@ fn print_body<'a, W: Write>(w: &mut W, request: &[u8], body: &'a [u8]) -> Result
 }
 
 /// Prints the two records of the reply to CREATE.
-pub fn print_created<'a, W: Write>(w: &mut W, body: &'a [u8]) -> Result<&'a [u8], Stop> {
+pub fn print_created<'a, W: Write>(w: &mut W, body: &'a [u8]) -> Left<'a> {
     let following = print_alone::<EntryOut, W>(w, body)?;
     print_alone::<OpenOut, W>(w, following)
 }

@@ -8,7 +8,7 @@ use crate::fields::{Fields, print_fields, print_record};
 use crate::flags::Set;
 use crate::further::{print_further_parts, print_number};
 use crate::opcodes::{opcode_name, print_parts};
-use crate::stop::{Stop, print_end};
+use crate::stop::{Left, Stop, print_end};
 use crate::take::{take_bytes, take_name, take_record, whole_name};
 use crate::text::{Data, Quoted};
 use bitflags::Flags;
@@ -16,7 +16,7 @@ use std::fmt::{self, Write};
 use vfs_flags::{FsOptions, KERNEL_VERSION, MIN_KERNEL_MINOR_VERSION, Opcode};
 use vfs_grammar::Error;
 use vfs_wire::{BatchForgetIn, ByteValued, ForgetOne, InHeader, InitInCompat, InitInExt};
-use vfs_wire_more::{SetxattrIn, SetxattrInCompat, WriteIn};
+use vfs_wire_more::{CreateIn, SetxattrIn, SetxattrInCompat, WriteIn};
 
 /// Prints a request as a line without its newline: its opcode, the fields of its header and of its
 /// record by name, and what follows them. `options` are those that are agreed on: they say whether a
@@ -91,7 +91,7 @@ pub fn print_name<'a, W: Write>(
     header: &InHeader,
     size: usize,
     bytes: &'a [u8],
-) -> Result<&'a [u8], Stop>
+) -> Left<'a>
     requires { size ≤ 152 }
 {
     let (tail, following) = take_tail(header, size, bytes)?;
@@ -105,7 +105,7 @@ pub fn print_record_and_name<'a, T: Fields, W: Write>(
     w: &mut W,
     header: &InHeader,
     bytes: &'a [u8],
-) -> Result<&'a [u8], Stop> {
+) -> Left<'a> {
     let (_, following) = print_record::<T, W>(w, bytes)?;
     print_name(w, header, T::SIZE, following)
 }
@@ -115,7 +115,7 @@ pub fn print_two_names<'a, T: Fields, W: Write>(
     w: &mut W,
     header: &InHeader,
     bytes: &'a [u8],
-) -> Result<&'a [u8], Stop> {
+) -> Left<'a> {
     let (_, following) = print_record::<T, W>(w, bytes)?;
     let (tail, left) = take_tail(header, T::SIZE, following)?;
     let Some((name, rest)) = take_name(tail) else {
@@ -133,11 +133,24 @@ pub fn print_named<'a, T: Fields, W: Write>(
     header: &InHeader,
     options: FsOptions,
     bytes: &'a [u8],
-) -> Result<&'a [u8], Stop> {
+) -> Left<'a> {
     let (_, following) = print_record::<T, W>(w, bytes)?;
     let (tail, left) = take_tail(header, T::SIZE, following)?;
     print_extended(w, " name=", options, tail)?;
     Ok(left)
+}
+
+/// The parts of TMPFILE, which are those of CREATE, if its record is there.
+pub fn print_tmpfile<'a, W: Write>(
+    w: &mut W,
+    header: &InHeader,
+    options: FsOptions,
+    bytes: &'a [u8],
+) -> Left<'a> {
+    if bytes.len() < CreateIn::SIZE {
+        return Ok(bytes);
+    }
+    print_named::<CreateIn, W>(w, header, options, bytes)
 }
 
 /// The name of a symbolic link, its text and extensions.
@@ -146,7 +159,7 @@ pub fn print_link<'a, W: Write>(
     header: &InHeader,
     options: FsOptions,
     bytes: &'a [u8],
-) -> Result<&'a [u8], Stop> {
+) -> Left<'a> {
     let (tail, left) = take_tail(header, 0, bytes)?;
     let Some((name, rest)) = take_name(tail) else {
         return Err(Stop::Refused(Error::MissingParameter));
@@ -180,7 +193,7 @@ fn print_extended<W: Write>(
 }
 
 /// The record of WRITE, and its data: all bytes after it.
-pub fn print_write<'a, W: Write>(w: &mut W, bytes: &'a [u8]) -> Result<&'a [u8], Stop> {
+pub fn print_write<'a, W: Write>(w: &mut W, bytes: &'a [u8]) -> Left<'a> {
     let (_, data) = print_record::<WriteIn, W>(w, bytes)?;
     write!(w, " data{}", Data(data))?;
     Ok(&[])
@@ -192,7 +205,7 @@ pub fn print_setxattr<'a, W: Write>(
     header: &InHeader,
     options: FsOptions,
     bytes: &'a [u8],
-) -> Result<&'a [u8], Stop> {
+) -> Left<'a> {
     if options.contains(FsOptions::SETXATTR_EXT) {
         let (record, following) = print_record::<SetxattrIn, W>(w, bytes)?;
         let (tail, left) = take_tail(header, SetxattrIn::SIZE, following)?;
@@ -218,7 +231,7 @@ fn print_value<W: Write>(w: &mut W, size: u32, tail: &[u8]) -> Result<(), Stop> 
 }
 
 /// The records of INIT: the second one is there if the first one's flags say so.
-pub fn print_init<'a, W: Write>(w: &mut W, bytes: &'a [u8]) -> Result<&'a [u8], Stop> {
+pub fn print_init<'a, W: Write>(w: &mut W, bytes: &'a [u8]) -> Left<'a> {
     let (first, following) = take_record::<InitInCompat>(bytes)?;
     print_fields(
         w,
@@ -261,7 +274,7 @@ fn judge_version(record: &InitInCompat) -> Result<(), Stop> {
 }
 
 /// The record of BATCH_FORGET, and as many pairs as it says.
-pub fn print_pairs<'a, W: Write>(w: &mut W, bytes: &'a [u8]) -> Result<&'a [u8], Stop> {
+pub fn print_pairs<'a, W: Write>(w: &mut W, bytes: &'a [u8]) -> Left<'a> {
     let (record, following) = print_record::<BatchForgetIn, W>(w, bytes)?;
     let mut left = following;
     for _ in 0..record.count {

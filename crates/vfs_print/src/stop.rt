@@ -17,6 +17,9 @@ pub enum Stop {
     OldVersion,
 }
 
+/// What is left of some bytes after those that were printed.
+pub type Left<'a> = Result<&'a [u8], Stop>;
+
 impl From<fmt::Error> for Stop {
     fn from(_error: fmt::Error) -> Stop {
         Stop::Writer
@@ -31,7 +34,7 @@ impl From<Error> for Stop {
 
 /// Prints how a message ends: how many bytes come after its parts, if there are any, or what it is
 /// refused for.
-pub fn print_end<W: Write>(w: &mut W, outcome: Result<&[u8], Stop>) -> fmt::Result {
+pub fn print_end<W: Write>(w: &mut W, outcome: Left<'_>) -> fmt::Result {
     match outcome {
         Ok(following) if following.is_empty() => Ok(()),
         Ok(following) => write!(w, " ignored={}", following.len()),

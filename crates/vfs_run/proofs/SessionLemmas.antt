@@ -1,26 +1,16 @@
 -- How a session was read whose third line is bad, after one that sets the limit and a request.
-use Rattle.std.proofs.Common.{◌≡◌, false, true, ℕ, zero, suc, List, [], ◌∷◌, take, Option, Some, None, refl, arith}
-use Rattle.std.specs.Prelude.{All, IsSomeAnd, slice_get}
+use Rattle.std.proofs.Common.{◌≡◌, false, true, ℕ, List, [], ◌∷◌, Option, Some, None, arith}
 use Rattle.hex.specs.Hex.{decode_pairs}
-use Rattle.vfs_run.specs.Lines.{Request, IsRequest, EndsAs, line_of, values_of, before_bad, ending}
+use Rattle.vfs_run.proofs.RunLemmas.{no_space, no_space_asks, nothing_asked, only_second}
+use Rattle.vfs_run.specs.Lines.{Request, EndsAs, line_of, values_of, before_bad, ending}
 
 -- `0 `, which asks something, and `16`, which doesn't
 abbrev pub two_lines : List (List ℕ)
-two_lines = (48 ∷ 32 ∷ []) ∷ (49 ∷ 54 ∷ []) ∷ []
+two_lines = nothing_asked ∷ no_space ∷ []
 
 -- what the first of them asks
 abbrev pub asked : Request
 asked = record { rooms = 0 ∷ []; segments = [] ∷ [] }
-
--- the second line is the only one that asks nothing, where all before it ask something
-only_second :
-    (index : ℕ) → All IsRequest (take index two_lines)
-    → IsSomeAnd (slice_get two_lines index) (λ line. line_of line ≡ None) → index ≡ 1
-unfolding decode_pairs
-only_second zero before bad = cc
-only_second (suc zero) before bad = refl
-only_second (suc (suc index)) before bad =
-    let no : false ≡ true = before 1 [] (omega arith) in cc
 
 -- the bad line is the third one
 pub third_is_bad : (bad : Option ℕ) → EndsAs 1 two_lines (ending bad) → bad ≡ Some 3
@@ -28,7 +18,7 @@ unfolding decode_pairs
 third_is_bad None all =
     let no : false ≡ true = all 1 [] (omega arith) in cc
 third_is_bad (Some number) bad =
-    let second : bad.index ≡ 1 = only_second bad.index bad.before bad.bad in
+    let second : bad.index ≡ 1 = only_second no_space [] bad.index no_space_asks bad.before bad.bad in
     let third : number ≡ 3 = omega (arith, bad.numbered) in
     cc
 

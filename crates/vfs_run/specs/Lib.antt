@@ -2,3 +2,4 @@ pub mod Status
 pub mod Lines
 pub mod Session
 pub mod Output
+pub mod Samples

@@ -10,8 +10,8 @@ use Rattle.vhost_protocol.specs.declared.chains.descriptor.Descriptor.{Descripto
 use Rattle.vhost_protocol.specs.declared.chains.regions.Region.{Region}
 use Rattle.vhost_protocol.specs.declared.chains.regions.Place.{Place}
 use Rattle.vhost_protocol.specs.declared.chains.walk.Walk.{Walk}
-use Rattle.vhost_protocol.specs.declared.chains.walk.Refusal.{Refusal}
-use Rattle.vhost_protocol.specs.declared.chains.walk.Refusal.TheVariants.{OutsideTable, LongerThanTable, Outside, PastEnd, ReadableAfterWritable, TooManyBytes, TableInTable, TableGoesOn, TableSize, TooManyEntries}
+use Rattle.vhost_protocol.specs.declared.numbers.ChainRefusal.{ChainRefusal}
+use Rattle.vhost_protocol.specs.declared.numbers.ChainRefusal.TheVariants.{OutsideTable, LongerThanTable, Outside, PastEnd, ReadableAfterWritable, TooManyBytes, TableInTable, TableGoesOn, TableSize, TooManyEntries}
 use Rattle.vhost_protocol.specs.declared.chains.walk.Step.{Step}
 use Rattle.vhost_protocol.specs.declared.chains.walk.Step.TheVariants.{Last, More, Refused}
 
@@ -146,7 +146,7 @@ wrong_size false b x y zero_is whole_is is = inr (eq_not y 0 (sym whole_is ∙ n
 
 -- what holds of a refusal for its reason, and of both kinds of steps by what led to them, holds of a step
 pub by_tests : (P : Step → Type 0) (w : Walk) (d : Descriptor) (rs : List Region)
-    → ((r : Refusal) → IsReason rs w d r → P (Refused r))
+    → ((r : ChainRefusal) → IsReason rs w d r → P (Refused r))
     → (LedToPiece w d → P (at_place w d rs (place_of rs d.addr d.len)))
     → (LedToTable w d → P (at_table w d rs (place_of rs d.addr d.len)))
     → P (step_at w d rs)

@@ -4,15 +4,14 @@ use Rattle.std.specs.Prelude.{not, nat_lt, if◌then◌else◌}
 use Rattle.vhost_protocol.specs.Chains.{IsReason, entry, IsTable, AreLinked, AreFew, AreOrdered, HaveBytes, HavePieces, GoesOnBy, GoesThrough, IsRest, IsChain}
 use Rattle.vhost_protocol.specs.Descriptors.{goes_on, is_writable, is_table}
 use Rattle.vhost_protocol.specs.Regions.{place_of}
-use Rattle.vhost_protocol.specs.Walks.{entry_size, piece_at, gone_on, at_place, begun, entered, at_table, step_at}
+use Rattle.vhost_protocol.specs.Walks.{entry_size, piece_at, gone_on, at_place, begun, entered, at_table, step_at, table_walk}
 use Rattle.vhost_protocol.specs.declared.chains.descriptor.Descriptor.{Descriptor}
 use Rattle.vhost_protocol.specs.declared.chains.regions.Region.{Region}
 use Rattle.vhost_protocol.specs.declared.chains.regions.Place.{Place}
 use Rattle.vhost_protocol.specs.declared.chains.walk.Piece.{Piece}
 use Rattle.vhost_protocol.specs.declared.chains.walk.Walk.{Walk}
-use Rattle.vhost_protocol.specs.declared.chains.walk.Refusal.{Refusal}
-use Rattle.vhost_protocol.specs.declared.chains.walk.Refusal.TheVariants.{OutsideTable, LongerThanTable, Outside, PastEnd, ReadableAfterWritable, TooManyBytes, TableInTable, TableGoesOn, TableSize, TooManyEntries}
-use Rattle.vhost_protocol.specs.declared.chains.walk.TheConstants.{MOST_BYTES}
+use Rattle.vhost_protocol.specs.declared.numbers.ChainRefusal.{ChainRefusal}
+use Rattle.vhost_protocol.specs.declared.numbers.ChainRefusal.TheVariants.{OutsideTable, LongerThanTable, Outside, PastEnd, ReadableAfterWritable, TooManyBytes, TableInTable, TableGoesOn, TableSize, TooManyEntries}
 use Rattle.vhost_protocol.specs.declared.chains.walk.Step.{Step}
 use Rattle.vhost_protocol.specs.declared.chains.walk.Step.TheVariants.{Last, More}
 use Rattle.vhost_protocol.proofs.Steps.{split, lt_is, by_tests, LedToPiece, LedToTable, both_not, not_false, lt_not, left_more, next_inside, size_is, has_entries}
@@ -76,10 +75,15 @@ table_is_rest rs ind table w d ds ps p can led place is ih = record {
   placed = inl (led.table, p, place, ih.placed);
 }
 
-piece_forward : (rs : List Region) (ind table : List ℕ) (w : Walk) (d : Descriptor) (ds : List Descriptor)
-    (ps : List Piece) → CanGo w → LedToPiece w d → d ≡ entry table w.at → Forward rs ind ds
-    → (o : Option Place) → place_of rs d.addr d.len ≡ o → On rs ind table ds (at_place w d rs o) ps
+-- the same from a descriptor of one kind on, by its step at the place that its bytes have
+abbrev ForwardFrom : (Walk → Descriptor → Type 0)
+    → (Walk → Descriptor → List Region → Option Place → Step) → List Region → List ℕ → Type 0
+ForwardFrom Led step rs ind = (table : List ℕ) (w : Walk) (d : Descriptor) (ds : List Descriptor)
+    (ps : List Piece) → CanGo w → Led w d → d ≡ entry table w.at → Forward rs ind ds
+    → (o : Option Place) → place_of rs d.addr d.len ≡ o → On rs ind table ds (step w d rs o) ps
     → IsRest rs ind table w (d ∷ ds) ps
+
+piece_forward : (rs : List Region) (ind : List ℕ) → ForwardFrom LedToPiece at_place rs ind
 piece_forward rs ind table w d ds ps can led is ih None place on = absurd on
 piece_forward rs ind table w d ds ps can led is ih (Some p) place on =
     split (λ s. On rs ind table ds s ps → IsRest rs ind table w (d ∷ ds) ps) (goes_on d)
@@ -90,10 +94,7 @@ piece_forward rs ind table w d ds ps can led is ih (Some p) place on =
     (λ g h. last_is_rest rs ind table w d ds ps p can led place is g h.0 h.1)
     on
 
-table_forward : (rs : List Region) (ind table : List ℕ) (w : Walk) (d : Descriptor) (ds : List Descriptor)
-    (ps : List Piece) → CanGo w → LedToTable w d → d ≡ entry table w.at → Forward rs ind ds
-    → (o : Option Place) → place_of rs d.addr d.len ≡ o → On rs ind table ds (at_table w d rs o) ps
-    → IsRest rs ind table w (d ∷ ds) ps
+table_forward : (rs : List Region) (ind : List ℕ) → ForwardFrom LedToTable at_table rs ind
 table_forward rs ind table w d ds ps can led is ih None place on = absurd on
 table_forward rs ind table w d ds ps can led is ih (Some p) place on =
     let size : (d.len ≢ 0) × (d.len % entry_size ≡ 0) × (d.len / entry_size ≤ w.most) = size_is w d led in
@@ -157,7 +158,7 @@ placed_piece rs d ds ps t (inr (e, p, r, is, ps_is, rest)) = (p, r, is, ps_is, r
 
 never_table : (rs : List Region) (w : Walk) (d : Descriptor) (p : Place) → is_table d ≡ true → w.indirect ≡ false
     → goes_on d ≡ false → IsTable w.most d → place_of rs d.addr d.len ≡ Some p
-    → (r : Refusal) → IsReason rs w d r → ⊥
+    → (r : ChainRefusal) → IsReason rs w d r → ⊥
 never_table rs w d p t outside alone size place OutsideTable why = absurd (cc (why.0))
 never_table rs w d p t outside alone size place LongerThanTable why = absurd (cc (why.0))
 never_table rs w d p t outside alone size place Outside why = absurd (cc (why.0))
@@ -174,7 +175,7 @@ never_piece : (rs : List Region) (w : Walk) (d : Descriptor) (p : Place) → is_
     → (w.writable ≡ true → is_writable d ≡ true) → d.len ≤ w.rest
     → (goes_on d ≡ true → 1 < w.left) → (goes_on d ≡ true → d.next < w.entries)
     → place_of rs d.addr d.len ≡ Some p
-    → (r : Refusal) → IsReason rs w d r → ⊥
+    → (r : ChainRefusal) → IsReason rs w d r → ⊥
 never_piece rs w d p t may bytes left next place OutsideTable why =
     let inside : d.next < w.entries = next why.1 in absurd (omega (arith, why.2))
 never_piece rs w d p t may bytes left next place LongerThanTable why =
@@ -283,24 +284,8 @@ backward rs ind (d ∷ ds) table w ps r = (
 -- ---- from the begin on
 
 may_begin : (b : Bool) (size most head : ℕ) (w : Walk) → b ≡ nat_lt head size
-    → (if b then Some (record {
-      at = head;
-      entries = size;
-      left = size;
-      most = most;
-      rest = MOST_BYTES;
-      indirect = false;
-      writable = false;
-    }) else None) ≡ Some w
-    → (w ≡ record {
-      at = head;
-      entries = size;
-      left = size;
-      most = most;
-      rest = MOST_BYTES;
-      indirect = false;
-      writable = false;
-    }) × (head < size)
+    → (if b then Some (record (table_walk size most) { at = head }) else None) ≡ Some w
+    → (w ≡ record (table_walk size most) { at = head }) × (head < size)
 may_begin true size most head w test is = (cc, lt_is head size (sym test))
 may_begin false size most head w test is = absurd (cc)
 

@@ -9,8 +9,8 @@ use Rattle.vhost_protocol.specs.declared.chains.regions.Region.{Region}
 use Rattle.vhost_protocol.specs.declared.chains.regions.Place.{Place}
 use Rattle.vhost_protocol.specs.declared.chains.walk.Piece.{Piece}
 use Rattle.vhost_protocol.specs.declared.chains.walk.Walk.{Walk}
-use Rattle.vhost_protocol.specs.declared.chains.walk.Refusal.{Refusal}
-use Rattle.vhost_protocol.specs.declared.chains.walk.Refusal.TheVariants.{OutsideTable, LongerThanTable, Outside, PastEnd, ReadableAfterWritable, TooManyBytes, TableInTable, TableGoesOn, TableSize, TooManyEntries}
+use Rattle.vhost_protocol.specs.declared.numbers.ChainRefusal.{ChainRefusal}
+use Rattle.vhost_protocol.specs.declared.numbers.ChainRefusal.TheVariants.{OutsideTable, LongerThanTable, Outside, PastEnd, ReadableAfterWritable, TooManyBytes, TableInTable, TableGoesOn, TableSize, TooManyEntries}
 use Rattle.vhost_protocol.specs.declared.chains.walk.TheConstants.{MOST_BYTES}
 use Rattle.vhost_protocol.specs.declared.chains.walk.Step.{Step}
 use Rattle.vhost_protocol.specs.declared.chains.walk.Step.TheVariants.{Last, More, Table, Refused}
@@ -25,7 +25,7 @@ Lie (r ∷ rs) addr len region offset =
     ⊎ ((before : ℕ) × (region ≡ 1 + before) × Lie rs addr len before offset)
 
 -- what a refusal says of the descriptor at which the walk is
-abbrev pub IsReason : List Region → Walk → Descriptor → Refusal → Type 0
+abbrev pub IsReason : List Region → Walk → Descriptor → ChainRefusal → Type 0
 IsReason regions w d OutsideTable = (is_table d ≡ false) × (goes_on d ≡ true) × (w.entries ≤ d.next)
 IsReason regions w d LongerThanTable = (is_table d ≡ false) × (goes_on d ≡ true) × (w.left ≤ 1)
 IsReason regions w d Outside = (place_of regions d.addr d.len ≡ None) × (place_of regions d.addr 1 ≡ None)

@@ -1,6 +1,7 @@
 pub mod Chains
 pub mod Descriptors
 pub mod Messages
+pub mod Numbers
 pub mod Places
 pub mod Records
 pub mod Regions

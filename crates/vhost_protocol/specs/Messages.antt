@@ -2,21 +2,19 @@
 use Rattle.std.specs.Prelude.{◌==◌, ◌%◌, ◌+◌, ◌^◌, ◌&&◌, ◌||◌, ℕ, List, length, Bool, Option, Some, None, Result, Ok, Err, if◌then◌else◌, nat_lt, nat_le, bit_and}
 use Rattle.std.specs.Int.{is_power_of_two}
 use Rattle.vfs_wire.specs.Fields.{number}
-use Rattle.vhost_protocol.specs.Records.{address, head, log, record_at, state, transfer}
-use Rattle.vhost_protocol.specs.Requests.{has_size, request_of}
+use Rattle.vhost_protocol.specs.Numbers.{request_of}
+use Rattle.vhost_protocol.specs.Records.{field, head_in, log_in, rings_in}
+use Rattle.vhost_protocol.specs.Requests.{has_size}
 use Rattle.vhost_protocol.specs.Tables.{alone, table_of}
 use Rattle.vhost_protocol.specs.declared.messages.message.Message.{Message}
 use Rattle.vhost_protocol.specs.declared.messages.message.Offer.{Offer}
 use Rattle.vhost_protocol.specs.declared.messages.message.Rings.{Rings}
-use Rattle.vhost_protocol.specs.declared.messages.message.Refusal.{Refusal}
-use Rattle.vhost_protocol.specs.declared.messages.message.Refusal.TheVariants.{Cut, WrongVersion, IsReply, NotServed, WrongSize, WrongDescriptors, NotOffered, NoQueue, WrongQueueSize, WrongBase, WrongEnable, Logs, Misaligned, WrongLog, WrongTransfer}
-use Rattle.vhost_protocol.specs.declared.messages.records.Address.{Address}
+use Rattle.vhost_protocol.specs.declared.numbers.Refusal.{Refusal}
+use Rattle.vhost_protocol.specs.declared.numbers.Refusal.TheVariants.{Cut, WrongVersion, IsReply, NotServed, WrongSize, WrongDescriptors, NotOffered, NoQueue, WrongQueueSize, WrongBase, WrongEnable, Logs, Misaligned, WrongLog, WrongTransfer}
 use Rattle.vhost_protocol.specs.declared.messages.records.Head.{Head}
 use Rattle.vhost_protocol.specs.declared.messages.records.Log.{Log}
-use Rattle.vhost_protocol.specs.declared.messages.records.State.{State}
-use Rattle.vhost_protocol.specs.declared.messages.records.Transfer.{Transfer}
-use Rattle.vhost_protocol.specs.declared.messages.request.Request.{Request}
-use Rattle.vhost_protocol.specs.declared.messages.request.Request.TheVariants.{GetFeatures, SetFeatures, SetOwner, ResetOwner, SetMemTable, SetVringNum, SetVringAddr, SetVringBase, GetVringBase, SetVringKick, SetVringCall, SetVringErr, GetProtocolFeatures, SetProtocolFeatures, GetQueueNum, SetVringEnable, SetLogBase, SetLogFd, SetDeviceStateFd, CheckDeviceState}
+use Rattle.vhost_protocol.specs.declared.numbers.Request.{Request}
+use Rattle.vhost_protocol.specs.declared.numbers.Request.TheVariants.{GetFeatures, SetFeatures, SetOwner, ResetOwner, SetMemTable, SetVringNum, SetVringAddr, SetVringBase, GetVringBase, SetVringKick, SetVringCall, SetVringErr, GetProtocolFeatures, SetProtocolFeatures, GetQueueNum, SetVringEnable, SetLogBase, SetLogFd, SetDeviceStateFd, CheckDeviceState}
 
 -- ---- headers
 
@@ -50,16 +48,19 @@ size_of_asked h (Ok r) = Ok h.size
 unfoldable pub size_in : (head : List ℕ) → Result ℕ Refusal
 size_in bytes =
     if length bytes == 12
-    then size_of_asked (record_at head 0 bytes) (asked_by (record_at head 0 bytes))
+    then size_of_asked (head_in bytes) (asked_by (head_in bytes))
     else Err Cut
 
 -- ---- payloads
 
+-- a message, if all of these features were offered
+unfoldable pub if_offered : (features offered : ℕ) → Message → Result Message Refusal
+if_offered features offered m =
+    if bit_and offered features == features then Ok m else Err NotOffered
+
 -- features, all of which were offered
-unfoldable pub wanted : Request → (number offered : ℕ) → Result Message Refusal
-wanted r number offered =
-    if bit_and number offered == number then Ok (record (alone r) { number = number })
-    else Err NotOffered
+abbrev pub wanted : Request → (number offered : ℕ) → Result Message Refusal
+wanted r number offered = if_offered number offered (record (alone r) { number = number })
 
 -- why a number of a queue can't be
 unfoldable pub number_fault : Request → ℕ → Option Refusal
@@ -74,10 +75,11 @@ abbrev pub unless : Option Refusal → Message → Result Message Refusal
 unless None m = Ok m
 unless (Some e) m = Err e
 
-unfoldable pub state_of : Request → State → (queues : ℕ) → Result Message Refusal
-state_of r s queues =
-    if nat_lt s.queue queues
-    then unless (number_fault r s.number) (record (alone r) { queue = s.queue; number = s.number })
+unfoldable pub state_of : Request → (body : List ℕ) → (queues : ℕ) → Result Message Refusal
+state_of r body queues =
+    if nat_lt (field 4 0 body) queues
+    then unless (number_fault r (field 4 4 body))
+    (record (alone r) { queue = field 4 0 body; number = field 4 4 body })
     else Err NoQueue
 
 -- an event of a queue, which bits 0 to 7 number: bit 8 says that it has no descriptor
@@ -91,13 +93,8 @@ event_of r number queues =
     else Err NoQueue
 
 -- a descriptor has 16 bytes, an entry of the available ring 2, and of the used ring fields of 4
-unfoldable pub are_aligned : Address → Bool
-are_aligned a = a.descriptors % 16 == 0 && a.available % 2 == 0 && a.used % 4 == 0
-
--- the rings of a queue
-abbrev pub rings_at : Address → Rings
-rings_at a =
-    record { descriptors = a.descriptors; used = a.used; available = a.available; log = a.log }
+unfoldable pub are_aligned : Rings → Bool
+are_aligned r = r.descriptors % 16 == 0 && r.available % 2 == 0 && r.used % 4 == 0
 
 -- the feature that what is written is marked in a log, and those of the protocol that this is in shared memory, and that
 -- a state goes by a descriptor
@@ -115,12 +112,17 @@ unfoldable pub can_be_logged : (flags features : ℕ) → Bool
 can_be_logged flags features =
     flags == 0 || (flags == 1 && bit_and features log_all == log_all)
 
-unfoldable pub rings_of : Address → (features queues : ℕ) → Result Message Refusal
-rings_of a features queues =
-    if nat_lt a.queue queues
-    then (if can_be_logged a.flags features
-    then (if are_aligned a
-    then Ok (record (alone SetVringAddr) { queue = a.queue; number = a.flags; rings = rings_at a })
+-- the rings of a queue
+unfoldable pub rings_of : (body : List ℕ) → (features queues : ℕ) → Result Message Refusal
+rings_of body features queues =
+    if nat_lt (field 4 0 body) queues
+    then (if can_be_logged (field 4 4 body) features
+    then (if are_aligned (rings_in body)
+    then Ok (record (alone SetVringAddr) {
+      queue = field 4 0 body;
+      number = field 4 4 body;
+      rings = rings_in body;
+    })
     else Err Misaligned)
     else Err Logs)
     else Err NoQueue
@@ -135,19 +137,13 @@ log_of l protocol =
     else Err WrongLog))
     else Err NotOffered
 
--- that many descriptors and nothing else, if a feature of the protocol was offered
-unfoldable pub only_with : Request → (descriptors feature protocol : ℕ) → Result Message Refusal
-only_with r descriptors feature protocol =
-    if bit_and protocol feature == feature then Ok (record (alone r) { descriptors = descriptors })
-    else Err NotOffered
-
 -- which way a state goes, if that was offered: it is saved (0) or loaded (1), while the queues are stopped (0)
-unfoldable pub transfer_of : Transfer → (protocol : ℕ) → Result Message Refusal
-transfer_of t protocol =
+unfoldable pub transfer_of : (direction phase protocol : ℕ) → Result Message Refusal
+transfer_of direction phase protocol =
     if bit_and protocol device_state == device_state
-    then (if nat_lt t.direction 2
-    then (if t.phase == 0
-    then Ok (record (alone SetDeviceStateFd) { descriptors = 1; number = t.direction })
+    then (if nat_lt direction 2
+    then (if phase == 0
+    then Ok (record (alone SetDeviceStateFd) { descriptors = 1; number = direction })
     else Err WrongTransfer)
     else Err WrongTransfer)
     else Err NotOffered
@@ -157,15 +153,15 @@ unfoldable pub payload_of : Request → (body : List ℕ) → Offer → Result M
 payload_of SetFeatures body o = wanted SetFeatures (number 8 body) o.features
 payload_of SetProtocolFeatures body o = wanted SetProtocolFeatures (number 8 body) o.protocol
 payload_of SetMemTable body o = table_of body
-payload_of SetVringNum body o = state_of SetVringNum (record_at state 0 body) o.queues
-payload_of SetVringBase body o = state_of SetVringBase (record_at state 0 body) o.queues
-payload_of GetVringBase body o = state_of GetVringBase (record_at state 0 body) o.queues
-payload_of SetVringEnable body o = state_of SetVringEnable (record_at state 0 body) o.queues
-payload_of SetVringAddr body o = rings_of (record_at address 0 body) o.features o.queues
-payload_of SetLogBase body o = log_of (record_at log 0 body) o.protocol
-payload_of SetLogFd body o = only_with SetLogFd 1 log_shmfd o.protocol
-payload_of SetDeviceStateFd body o = transfer_of (record_at transfer 0 body) o.protocol
-payload_of CheckDeviceState body o = only_with CheckDeviceState 0 device_state o.protocol
+payload_of SetVringNum body o = state_of SetVringNum body o.queues
+payload_of SetVringBase body o = state_of SetVringBase body o.queues
+payload_of GetVringBase body o = state_of GetVringBase body o.queues
+payload_of SetVringEnable body o = state_of SetVringEnable body o.queues
+payload_of SetVringAddr body o = rings_of body o.features o.queues
+payload_of SetLogBase body o = log_of (log_in body) o.protocol
+payload_of SetLogFd body o = if_offered log_shmfd o.protocol (record (alone SetLogFd) { descriptors = 1 })
+payload_of SetDeviceStateFd body o = transfer_of (field 4 0 body) (field 4 4 body) o.protocol
+payload_of CheckDeviceState body o = if_offered device_state o.protocol (alone CheckDeviceState)
 payload_of SetVringKick body o = event_of SetVringKick (number 8 body) o.queues
 payload_of SetVringCall body o = event_of SetVringCall (number 8 body) o.queues
 payload_of SetVringErr body o = event_of SetVringErr (number 8 body) o.queues
@@ -196,5 +192,5 @@ told h body descriptors o (Ok r) =
 unfoldable pub message_of : (head body : List ℕ) → (descriptors : ℕ) → Offer → Result Message Refusal
 message_of bytes body descriptors o =
     if length bytes == 12
-    then told (record_at head 0 bytes) body descriptors o (asked_by (record_at head 0 bytes))
+    then told (head_in bytes) body descriptors o (asked_by (head_in bytes))
     else Err Cut

@@ -2,17 +2,17 @@
 use Rattle.std.specs.Prelude.{◌==◌, ◌≤◌, ◌<◌, ◌+◌, ◌*◌, ◌^◌, ◌&&◌, ◌||◌, ℕ, List, [], ◌∷◌, length, take, replicate, Bool, false, Option, Some, None, Result, Ok, Err, if◌then◌else◌, nat_lt, nat_le}
 use Rattle.std.specs.List.{All, AllPairs}
 use Rattle.vfs_wire.specs.Fields.{number}
-use Rattle.vhost_protocol.specs.Records.{record_at, region}
-use Rattle.vhost_protocol.specs.Requests.{number_of}
+use Rattle.vhost_protocol.specs.Records.{region_at}
+use Rattle.vhost_protocol.specs.Numbers.{request_number}
 use Rattle.vhost_protocol.specs.declared.messages.message.Message.{Message}
 use Rattle.vhost_protocol.specs.declared.messages.message.Rings.{Rings}
 use Rattle.vhost_protocol.specs.declared.messages.message.Table.{Table}
-use Rattle.vhost_protocol.specs.declared.messages.message.Refusal.{Refusal}
-use Rattle.vhost_protocol.specs.declared.messages.message.Refusal.TheVariants.{WrongCount, EmptyRegion, GuestRange, UserRange, FileRange, Overlap}
+use Rattle.vhost_protocol.specs.declared.numbers.Refusal.{Refusal}
+use Rattle.vhost_protocol.specs.declared.numbers.Refusal.TheVariants.{WrongCount, EmptyRegion, GuestRange, UserRange, FileRange, Overlap}
 use Rattle.vhost_protocol.specs.declared.messages.records.Log.{Log}
 use Rattle.vhost_protocol.specs.declared.messages.records.Region.{Region}
-use Rattle.vhost_protocol.specs.declared.messages.request.Request.{Request}
-use Rattle.vhost_protocol.specs.declared.messages.request.Request.TheVariants.{SetMemTable}
+use Rattle.vhost_protocol.specs.declared.numbers.Request.{Request}
+use Rattle.vhost_protocol.specs.declared.numbers.Request.TheVariants.{SetMemTable}
 
 -- ---- messages
 
@@ -31,7 +31,7 @@ no_memory = record { count = 0; region = replicate 8 no_region }
 -- a message of this request alone
 abbrev pub alone : Request → Message
 alone r = record {
-  request = number_of r;
+  request = request_number r;
   wants_reply = 0;
   queue = 0;
   descriptors = 0;
@@ -117,7 +117,7 @@ pub record HasMemory (m : Message) : Type 0 where
 -- a region of a table's bytes; one past its end is none
 unfoldable pub region_in : (body : List ℕ) → (i : ℕ) → Region
 region_in body i =
-    if nat_le (8 + 32 * (i + 1)) (length body) then record_at region (8 + 32 * i) body else no_region
+    if nat_le (8 + 32 * (i + 1)) (length body) then region_at (8 + 32 * i) body else no_region
 
 -- the eight regions of a table's bytes
 abbrev pub regions_in : (body : List ℕ) → List Region

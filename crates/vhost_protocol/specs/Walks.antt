@@ -1,14 +1,15 @@
 -- A walk along a chain: what each descriptor makes of it.
 use Rattle.std.specs.Prelude.{ℕ, ℤ, pos, List, ◌-◌, ◌/◌, ◌%◌, ◌==◌, ◌&&◌, ◌||◌, not, true, false, nat_le, nat_lt, Option, Some, None, is_some, if◌then◌else◌}
 use Rattle.vhost_protocol.specs.Descriptors.{goes_on, is_writable, is_table}
+use Rattle.vhost_protocol.specs.Numbers.{chain_refusal_number}
 use Rattle.vhost_protocol.specs.Regions.{place_of}
 use Rattle.vhost_protocol.specs.declared.chains.descriptor.Descriptor.{Descriptor}
 use Rattle.vhost_protocol.specs.declared.chains.regions.Region.{Region}
 use Rattle.vhost_protocol.specs.declared.chains.regions.Place.{Place}
 use Rattle.vhost_protocol.specs.declared.chains.walk.Piece.{Piece}
 use Rattle.vhost_protocol.specs.declared.chains.walk.Walk.{Walk}
-use Rattle.vhost_protocol.specs.declared.chains.walk.Refusal.{Refusal}
-use Rattle.vhost_protocol.specs.declared.chains.walk.Refusal.TheVariants.{OutsideTable, LongerThanTable, Outside, PastEnd, ReadableAfterWritable, TooManyBytes, TableInTable, TableGoesOn, TableSize, TooManyEntries}
+use Rattle.vhost_protocol.specs.declared.numbers.ChainRefusal.{ChainRefusal}
+use Rattle.vhost_protocol.specs.declared.numbers.ChainRefusal.TheVariants.{OutsideTable, LongerThanTable, Outside, PastEnd, ReadableAfterWritable, TooManyBytes, TableInTable, TableGoesOn, TableSize, TooManyEntries}
 use Rattle.vhost_protocol.specs.declared.chains.walk.Step.{Step}
 use Rattle.vhost_protocol.specs.declared.chains.walk.Step.TheVariants.{Last, More, Table, Refused}
 use Rattle.vhost_protocol.specs.declared.chains.walk.TheConstants.{MOST_BYTES}
@@ -17,22 +18,25 @@ use Rattle.vhost_protocol.specs.declared.chains.walk.TheConstants.{MOST_BYTES}
 abbrev pub entry_size : ℕ
 entry_size = 16
 
+-- a walk from the first entry of the queue's table on
+abbrev pub table_walk : (size most : ℕ) → Walk
+table_walk size most = record {
+  at = 0;
+  entries = size;
+  left = size;
+  most = most;
+  rest = MOST_BYTES;
+  indirect = false;
+  writable = false;
+}
+
 -- a walk that begins with this entry of the queue's table
 abbrev pub begun : (size most head : ℕ) → Option Walk
 begun size most head =
-    if nat_lt head size then Some (record {
-      at = head;
-      entries = size;
-      left = size;
-      most = most;
-      rest = MOST_BYTES;
-      indirect = false;
-      writable = false;
-    })
-    else None
+    if nat_lt head size then Some (record (table_walk size most) { at = head }) else None
 
 -- why there is no place for bytes: a region has the first one, or none has
-abbrev pub unplaced : List Region → (addr : ℕ) → Refusal
+abbrev pub unplaced : List Region → (addr : ℕ) → ChainRefusal
 unplaced regions addr = if is_some (place_of regions addr 1) then PastEnd else Outside
 
 -- the piece of a descriptor, at its place
@@ -91,25 +95,12 @@ step_at w d regions = if is_table d then table_step w d regions else piece_step 
 
 -- ---- for C
 
--- the number of a refusal
-abbrev pub number_of : Refusal → ℕ
-number_of OutsideTable = 3
-number_of LongerThanTable = 4
-number_of Outside = 5
-number_of PastEnd = 6
-number_of ReadableAfterWritable = 7
-number_of TooManyBytes = 8
-number_of TableInTable = 9
-number_of TableGoesOn = 10
-number_of TableSize = 11
-number_of TooManyEntries = 12
-
 -- the number of a step
 abbrev pub code_of : Step → ℤ
 code_of (Last piece) = pos 0
 code_of (More piece walk) = pos 1
 code_of (Table place walk) = pos 2
-code_of (Refused refusal) = pos (number_of refusal)
+code_of (Refused refusal) = pos (chain_refusal_number refusal)
 
 -- the walk after a step: where none goes on it stays
 abbrev pub walk_after : Step → Walk → Walk

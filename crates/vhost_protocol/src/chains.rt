@@ -11,8 +11,9 @@ mod rings;
 mod uses;
 mod walk;
 
+pub use crate::numbers::ChainRefusal;
 pub use descriptor::{Descriptor, flag};
 pub use laws::{steps_are_within, walks_are_chains, words_are_bytes};
 pub use regions::{Place, Region, find};
 pub use rings::{needs_event, slot, waiting};
-pub use walk::{LAST, MORE, MOST_BYTES, Piece, Refusal, Step, TABLE, Walk, begin, take_step};
+pub use walk::{LAST, MORE, MOST_BYTES, Piece, Step, TABLE, Walk, begin, take_step};

@@ -4,3 +4,4 @@
 
 pub mod chains;
 pub mod messages;
+pub mod numbers;

@@ -12,8 +12,8 @@ mod request;
 mod table;
 mod uses;
 
-pub use message::{Message, Offer, Refusal, Rings, Table};
+pub use crate::numbers::{Refusal, Request};
+pub use message::{Message, Offer, Rings, Table};
 pub use place::{Place, View, place_of};
 pub use read::{payload_size, read_message};
-pub use records::{Address, Head, Region, State};
-pub use request::Request;
+pub use records::{Head, Region};

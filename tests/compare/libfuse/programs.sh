@@ -139,7 +139,8 @@ read_by() {
     [ -z "$bad" ] && [ "$where" != "not here" ]
 }
 
-if ! command -v "$program" > /dev/null; then
+if ! command -v "$program" > /dev/null ||
+    { [ "$(field "$program" 3)" = serve_ssh ] && [ ! -x /usr/sbin/sshd ]; }; then
     echo "requires $program: apt-get install $(field "$program" 2)" >&2
     exit 2
 fi

@@ -28,6 +28,9 @@
 #include <sys/uio.h>
 #include <unistd.h>
 
+/* (not each function of libfuse's looks at all that it is handed) */
+#pragma GCC diagnostic ignored "-Wunused-parameter"
+
 /* Bytes of a message at most, and of a link that is too long for Linux. */
 enum { SIZE = 1 << 16, LONGEST = 5000 };
 
@@ -76,7 +79,6 @@ static ssize_t take_reply(int fd, struct iovec *iov, int count, void *user)
 	size_t at = 0;
 	int i;
 
-	(void)fd, (void)user;
 	if (count > IOV_MAX) {
 		errno = EINVAL;
 		return -1;
@@ -99,7 +101,6 @@ static size_t next_len;
 /* Gives the next message as a kernel does, to who reads, or into libfuse's pipe. */
 static ssize_t give_request(int fd, void *at, size_t len, void *user)
 {
-	(void)fd, (void)user;
 	if (next_len > len)
 		abort();
 	memcpy(at, next_message, next_len);
@@ -110,7 +111,6 @@ static ssize_t give_request(int fd, void *at, size_t len, void *user)
 static ssize_t give_to_pipe(int fd, off_t *from, int pipe, off_t *to, size_t len, unsigned int flags,
 			    void *user)
 {
-	(void)fd, (void)from, (void)to, (void)flags, (void)user;
 	return next_len > len ? -1 : write(pipe, next_message, next_len);
 }
 
@@ -167,7 +167,6 @@ static int interrupts;
 /* Called by libfuse as an interrupt comes, or at once if it came before. */
 static void on_interrupt(fuse_req_t req, void *data)
 {
-	(void)data;
 	interrupts += req == waiting;
 }
 
@@ -198,7 +197,6 @@ static void on_lookup(fuse_req_t req, fuse_ino_t parent, const char *name)
 {
 	const struct statvfs st = { .f_bsize = 1 };
 
-	(void)parent;
 	if (*name == 'e')
 		fuse_reply_err(req, atoi(name + 1));
 	else if (!strcmp(name, "none"))
@@ -227,7 +225,6 @@ static void on_readlink(fuse_req_t req, fuse_ino_t ino)
  * itself, which isn't its length. */
 static void on_getxattr(fuse_req_t req, fuse_ino_t ino, const char *name, size_t size)
 {
-	(void)name;
 	struct fuse_bufvec endless = FUSE_BUFVEC_INIT(SIZE_MAX);
 
 	endless.buf[0].mem = text;
@@ -269,7 +266,6 @@ static void on_read(fuse_req_t req, fuse_ino_t ino, size_t size, off_t off, stru
 {
 	struct fuse_bufvec endless = FUSE_BUFVEC_INIT(SIZE_MAX);
 
-	(void)off, (void)fi;
 	endless.buf[0].mem = text;
 	if (ino == 4)
 		fuse_reply_data(req, &endless, 0);
@@ -291,7 +287,6 @@ static void on_write(fuse_req_t req, fuse_ino_t ino, struct fuse_bufvec *from, o
 {
 	struct fuse_bufvec to = FUSE_BUFVEC_INIT(fuse_buf_size(from));
 
-	(void)off, (void)fi;
 	to.buf[0].mem = written;
 	/* (of node 3 a part is left where it is) */
 	if (ino == 3)
@@ -353,7 +348,6 @@ static void list_many(fuse_req_t req)
 
 static void on_readdirplus(fuse_req_t req, fuse_ino_t ino, size_t size, off_t off, struct fuse_file_info *fi)
 {
-	(void)ino, (void)size, (void)off, (void)fi;
 	list_many(req);
 }
 
@@ -365,7 +359,6 @@ static void on_readdir(fuse_req_t req, fuse_ino_t ino, size_t size, off_t off, s
 	uint32_t long_name = 40, none = 0; /* put in place of the name's length */
 	size_t len = fuse_add_direntry(req, at, sizeof(at), "name", &st, 1);
 
-	(void)off, (void)fi;
 	if (ino >= NAMES) {
 		list_name(req, (ino - NAMES) / PLACES, (ino - NAMES) % PLACES);
 		return;
@@ -407,7 +400,6 @@ static void on_open(fuse_req_t req, fuse_ino_t ino, struct fuse_file_info *fi)
 static void on_ioctl(fuse_req_t req, fuse_ino_t ino, unsigned int cmd, void *arg, struct fuse_file_info *fi,
 		     unsigned flags, const void *in, size_t in_size, size_t out_size)
 {
-	(void)cmd, (void)arg, (void)fi, (void)flags, (void)in, (void)in_size;
 	if (ino == 4)
 		fuse_reply_buf(req, text, 8);
 	else if (ino == 5)
@@ -421,7 +413,6 @@ static void on_ioctl(fuse_req_t req, fuse_ino_t ino, unsigned int cmd, void *arg
 /* Takes back lookups that the client holds: those that the file system was told of. */
 static void on_forget(fuse_req_t req, fuse_ino_t ino, uint64_t lookups)
 {
-	(void)ino;
 	held -= (long)lookups;
 	fuse_reply_none(req);
 }
@@ -429,7 +420,6 @@ static void on_forget(fuse_req_t req, fuse_ino_t ino, uint64_t lookups)
 /* (the memory of a request stays its own until it's answered) */
 static void on_getattr(fuse_req_t req, fuse_ino_t ino, struct fuse_file_info *fi)
 {
-	(void)ino, (void)fi;
 	waiting = req;
 }
 
@@ -442,7 +432,6 @@ static void on_retrieved(fuse_req_t req, void *cookie, fuse_ino_t ino, off_t off
 {
 	struct fuse_bufvec to = FUSE_BUFVEC_INIT(sizeof(kept));
 
-	(void)cookie, (void)ino, (void)off;
 	to.buf[0].mem = kept;
 	retrieved = (size_t)fuse_buf_copy(&to, bufv, 0);
 	fuse_reply_none(req);
@@ -958,7 +947,6 @@ static void on_device_open(fuse_req_t req, struct fuse_file_info *fi)
 /* Nine bytes, where the handle is that of the open. */
 static void on_device_read(fuse_req_t req, size_t size, off_t off, struct fuse_file_info *fi)
 {
-	(void)off;
 	fuse_reply_buf(req, text, fi->fh == 5 && size > 9 ? 9 : size);
 }
 
@@ -966,7 +954,6 @@ static void on_device_read(fuse_req_t req, size_t size, off_t off, struct fuse_f
 static void on_device_write(fuse_req_t req, const char *buf, size_t size, off_t off,
 			    struct fuse_file_info *fi)
 {
-	(void)off, (void)fi;
 	fuse_reply_write(req, size == 6 && !memcmp(buf, "bytes", 6) ? 6 : 0);
 }
 
@@ -976,7 +963,6 @@ static void on_device_ioctl(fuse_req_t req, int cmd, void *arg, struct fuse_file
 {
 	const struct iovec asked = { arg, 8 };
 
-	(void)fi, (void)flags, (void)in, (void)out_size;
 	if (in_size)
 		fuse_reply_ioctl(req, cmd, NULL, 0);
 	else
@@ -1074,7 +1060,6 @@ static char logged[256];
 static __attribute__((format(printf, 2, 0))) void note_log(enum fuse_log_level level, const char *format,
 							   va_list arguments)
 {
-	(void)level;
 	vsnprintf(logged, sizeof(logged), format, arguments);
 	fputs(logged, stderr);
 }
@@ -1332,7 +1317,6 @@ static void on_getattr_queue(fuse_req_t req, fuse_ino_t ino, struct fuse_file_in
 {
 	static pthread_mutex_t lock = PTHREAD_MUTEX_INITIALIZER;
 
-	(void)ino, (void)fi;
 	pthread_mutex_lock(&lock);
 	queue[queued] = req; /* before it is counted: who takes it reads it without the lock */
 	queued++;
@@ -1342,7 +1326,6 @@ static void on_getattr_queue(fuse_req_t req, fuse_ino_t ino, struct fuse_file_in
 /* (that there is one is what counts: it is called if the kernel interrupts the request) */
 static void on_told(fuse_req_t req, void *data)
 {
-	(void)req, (void)data;
 }
 
 /* Half of the requests are asked about first, so that they are known to others; the others end without a lock. */
@@ -1400,7 +1383,6 @@ static ssize_t count_reply(int fd, struct iovec *iov, int count, void *user)
 	size_t len = 0;
 	int i;
 
-	(void)fd, (void)user;
 	memcpy(&out, iov->iov_base, sizeof(out));
 	for (i = 0; i < count; i++)
 		len += iov[i].iov_len;

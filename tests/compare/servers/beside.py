@@ -1,8 +1,8 @@
 #!/usr/bin/env python3
 """Asks two daemons the same requests, and sorts what comes.
 
-Usage: beside.py show|compare ASK OURS FOLDER VERSIONS THEIRS..
-ASK and OURS are the built ask.c and programs/vhost/vhost.c. THEIRS are the words that start virtiofsd; in them
+Usage: beside.py show|compare OURS FOLDER VERSIONS THEIRS..
+OURS is the built programs/vhost/vhost.c. THEIRS are the words that start virtiofsd; in them
 SOCKET and SHARE stand for its socket and the folder to share, which are made in FOLDER. What came is shown,
 with VERSIONS, and with `compare` the numbers of requests are compared with EXPECTED, which are of virtiofsd 1.13.2.
 
@@ -19,17 +19,16 @@ import collections
 import concurrent.futures
 import errno
 import os
-import pathlib
 import re
 import struct
-import subprocess
 import sys
 import tempfile
 
-sys.path.insert(0, str(pathlib.Path(__file__).resolve().parents[2] / "lib"))
-import requests  # noqa: E402
+from daemon import Daemon
+from asking import HUNG_UP, NONE
+import requests
 
-# How ask.c prints a reply of 16 bytes with ENOSYS (-38, 0xda) to the request whose unique is 7: that of LAST in requests.py.
+# What comes of a line with a reply of 16 bytes with ENOSYS (-38, 0xda) to the request whose unique is 7: that of LAST in requests.py.
 ENOSYS = "16 10000000daffffff0700000000000000"
 # What virtiofsd prints as a refusal ends it, of 1.13.2 and of 1.14.0; and the files of its protocol layer.
 REFUSALS = r"ProcessQueue\((\w+)|Failed to handle an incoming request: ([^:\n]+)"
@@ -67,56 +66,36 @@ class Stopped(Exception):
     """It can't go on."""
 
 
-def talk(asking, lines):
+def talk(daemon, lines):
     """The lines that were asked, each made of the answers before it, and the answers."""
     asked, answers = [], []
     for line in lines:
         try:
             asked.append(line(answers) if callable(line) else line)
-            asking.stdin.write(asked[-1] + "\n")
-            asking.stdin.flush()
         except ValueError as why:
             raise Stopped(why) from None
-        except BrokenPipeError:
-            pass
-        answers.append(asking.stdout.readline().rstrip("\n"))
-        # (the words of ask.c for a chain that doesn't come back, and for a daemon that is gone)
-        if answers[-1] in ("", "none", "hung up"):
+        answers.append(daemon.ask(asked[-1]))
+        if answers[-1] in (NONE, HUNG_UP):
             break
     return asked, answers
 
 
-def end(process, seconds):
-    """Waits so long for the end of a process, and then kills it."""
-    try:
-        process.wait(seconds)
-    except subprocess.TimeoutExpired:
-        pass
-    finally:
-        process.kill()
-        process.wait()
-
-
-def ask_new(daemon, lines):
+def ask_new(words, lines):
     """What a new daemon is asked, what it answers, and what it printed."""
     with tempfile.TemporaryDirectory(dir=folder) as at:
-        share, socket = at + "/share", at + "/socket"
-        os.mkdir(share)
-        # (only a whole word is one of these)
-        words = [{"SOCKET": socket, "SHARE": share}.get(word, word) for word in daemon]
+        os.mkdir(at + "/share")
         with open(at + "/log", "w+", encoding="utf-8", errors="replace") as log:
-            process = subprocess.Popen(words, stdin=subprocess.DEVNULL, stdout=log, stderr=log)
             try:
-                with subprocess.Popen([ask, socket], stdin=subprocess.PIPE, stdout=subprocess.PIPE,
-                                      text=True) as asking:
-                    asked, answers = talk(asking, lines)
-                # (a second to end by itself, since what it prints then is looked at)
-                process.terminate()
+                daemon = Daemon(words, at + "/socket", at + "/share", log)
+            except OSError as why:
+                log.seek(0)
+                raise Stopped(f"{words[0]} can't be asked: {why}\n{log.read()}") from None
+            try:
+                asked, answers = talk(daemon, lines)
             finally:
-                end(process, 1)
+                # (a second to end by itself, since what it prints then is looked at)
+                daemon.end(1)
             log.seek(0)
-            if asking.returncode or "" in answers:
-                raise Stopped(f"{words[0]} can't be asked:\n{log.read()}")
             return asked, answers, log.read()
 
 
@@ -175,7 +154,7 @@ def kind_of(line, theirs, ours, log):
     # A header that is cut short has no reply.
     request = request_of(line).ljust(40, b"\0")
     nothing, here, there = ours.startswith("0 "), reply_of(ours, request), reply_of(theirs, request)
-    if theirs in ("none", "hung up") and (nothing or here):
+    if theirs in (NONE, HUNG_UP) and (nothing or here):
         refusal = re.search(REFUSALS, log)
         panic = re.search(r"panicked at (?:\S*src/)?(\S+\.rs):(\d+)", log)
         if refusal:
@@ -191,36 +170,36 @@ def kind_of(line, theirs, ours, log):
     return (DIFFER if part else None), part or ""
 
 
-def judge(session):
-    """Of each judged request its name, its kind and its part, and what came if it has no kind; and whether
-    the server here, and virtiofsd, answered the last one."""
+def judge(session, their_words, our_words, differences=None):
+    """Of each judged request its name, its kind and its part, and what came if it has no kind; and whether the server
+    here, and virtiofsd, answered the last one. The file systems may differ in these parts alone, if they are said."""
     items, skipped = session
     lines = [line for _, line in items]
-    (_, there, log), (asked, here, _) = ask_new(theirs, lines), ask_new([ours, "SOCKET"], lines)
+    (_, there, log), (asked, here, said) = ask_new(their_words, lines), ask_new(our_words, lines)
     found = []
     for at in range(skipped, len(items) - 1):
-        answers = [said[at] if at < len(said) else "not asked" for said in (there, here)]
+        answers = [answers[at] if at < len(answers) else "not asked" for answers in (there, here)]
         kind, part = kind_of(asked[at], *answers, log) if at < len(asked) else (None, "")
+        if kind == DIFFER and differences and part not in differences:
+            kind = None
         # (all that is known of what has no kind)
-        came = "" if kind else f"{items[at][0]}\n  virtiofsd {answers[0]}\n  here      {answers[1]}\n{log}"
+        came = "" if kind else f"{items[at][0]}\n  virtiofsd {answers[0]}\n  here      {answers[1]}\n{log}{said}"
         found.append((items[at][0], kind, part, came))
     return found, here[-1] == ENOSYS, there[-1] == ENOSYS
 
 
-def judge_all():
-    """What came of each session, eight at a time; the first that can't be judged ends all."""
-    sessions = list(requests.sessions())
-    with concurrent.futures.ThreadPoolExecutor(8) as pool:
-        judged = []
+def over(what, workers, function, sessions):
+    """What a function makes of sessions, that many at a time. The first that can't be judged ends all."""
+    sessions = list(sessions)
+    with concurrent.futures.ThreadPoolExecutor(workers) as pool:
         try:
-            for one in pool.map(judge, sessions):
-                judged.append(one)
-                if len(judged) % 20 == 0:
-                    print(f"{len(judged)} of {len(sessions)} sessions", file=sys.stderr, flush=True)
+            for n, one in enumerate(pool.map(function, sessions), 1):
+                yield one
+                if n % 20 == 0 or n == len(sessions):
+                    print(f"{what}: {n} of {len(sessions)} sessions", file=sys.stderr, flush=True)
         except BaseException:
             pool.shutdown(cancel_futures=True)
             raise
-    return judged
 
 
 def by_parts(judged):
@@ -238,7 +217,7 @@ def count(parts):
 
 def main(how, versions):
     """Judges all sessions, and shows what came by kind and part."""
-    judged = judge_all()
+    judged = list(over("Hostile requests", 8, lambda it: judge(it, theirs, [ours, "SOCKET"]), requests.sessions()))
     kinds = by_parts(judged)
     for kind in filter(kinds.get, (*KINDS, None)):
         parts = kinds[kind]
@@ -264,10 +243,10 @@ if __name__ == "__main__":
     if sys.argv[1:2] in (["-h"], ["--help"]):
         print(__doc__.rstrip())
         sys.exit()
-    if len(sys.argv) < 7 or sys.argv[1] not in ("show", "compare"):
+    if len(sys.argv) < 6 or sys.argv[1] not in ("show", "compare"):
         print(__doc__.rstrip(), file=sys.stderr)
         sys.exit(2)
-    how_to_end, ask, ours, folder, both, *theirs = sys.argv[1:]
+    how_to_end, ours, folder, both, *theirs = sys.argv[1:]
     try:
         main(how_to_end, both)
     except Stopped as reason:

@@ -1,13 +1,10 @@
 """Well-formed requests by a seed, for replaced.py, and what of their replies does not depend on the folder."""
 import collections
 import os
-import pathlib
 import struct
-import sys
 
-sys.path.insert(0, str(pathlib.Path(__file__).resolve().parents[2] / "lib"))
-import requests  # noqa: E402
-from shapes import SHAPES, Op  # noqa: E402
+import requests
+from shapes import SHAPES, Op
 
 ROOT = 1
 # How many requests a session begins with, by which it gets its first nodes and handles.
@@ -78,9 +75,9 @@ class Client:
     def build(self, it):
         """A line of the request."""
         body = b"".join(part if isinstance(part, bytes) else struct.pack("<Q", self.number(part)) for part in it.parts)
-        made = bytearray(requests.request(it.opcode, body, node=self.number(it.node), extensions=it.extensions // 8))
-        struct.pack_into("<II", made, 24, *it.owner)
-        return requests.line(it.room, bytes(made), [cut for cut in it.cuts if cut < len(made)])
+        uid, gid = it.owner
+        made = requests.request(it.opcode, body, node=self.number(it.node), uid=uid, gid=gid, extensions=it.extensions // 8)
+        return requests.line(it.room, made, [cut for cut in it.cuts if cut < len(made)])
 
     def take(self, reply, mode):
         """Learns the node at the beginning of an entry, and puts its place in the list instead."""

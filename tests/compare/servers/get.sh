@@ -1,16 +1,15 @@
 #!/usr/bin/env bash
 # Gets a server of FUSE from Debian's packages, and builds it with what of it is beside this script.
 #
-# Usage: tests/compare/servers/get.sh libfuse|fuser|go-fuse|virtiofsd SUITE TO FOLDER
-# It leaves the program as TO, and its package's version as TO.version; of virtiofsd TO is the folder with the
-# daemon and its libraries. FOLDER is for what it makes meanwhile; in it are lists of packages from one call to
-# the next. tests/compare/test_servers.py calls it.
+# Usage: tests/compare/servers/get.sh libfuse|fuser|go-fuse SUITE TO FOLDER
+# It leaves the program as TO, and its package's version as TO.version. FOLDER is for what it makes meanwhile; in it are
+# lists of packages from one call to the next. tests/compare/test_servers.py calls it.
 set -euo pipefail
 . "$(dirname "$0")/../../../tools/lib/usage.sh"
 . "$(dirname "$0")/../../../tools/lib/debian.sh"
 
 if [ $# != 4 ]; then
-    echo "Usage: tests/compare/servers/get.sh libfuse|fuser|go-fuse|virtiofsd SUITE TO FOLDER" >&2
+    echo "Usage: tests/compare/servers/get.sh libfuse|fuser|go-fuse SUITE TO FOLDER" >&2
     exit 2
 fi
 beside=$(cd "$(dirname "$0")" && pwd)
@@ -113,16 +112,9 @@ build_go_fuse() {
     version_of golang-github-hanwen-go-fuse-dev > "$to.version"
 }
 
-# By its own loader and libraries it runs whatever the machine has.
-get_virtiofsd() {
-    unpack_packages "$folder/$suite" virtiofsd libc6 libcap-ng0 libgcc-s1 libseccomp2
-    mv "$folder/$suite" "$to"
-}
-
 case $what in
     libfuse) build_libfuse ;;
     fuser) build_fuser ;;
     go-fuse) build_go_fuse ;;
-    virtiofsd) get_virtiofsd ;;
     *) echo "There is no $what here." >&2 && exit 2 ;;
 esac

@@ -2,80 +2,34 @@
 """Moves a session from one virtiofsd to another by the daemon's own state, as QEMU migrates a machine with a mounted share,
 and goes on with nodes and handles of before.
 
-Usage: migrated.py ASK FOLDER REPLACED THEIRS..
-ASK is the built ask.c. REPLACED is the daemon with the layer here, and THEIRS are the words that start virtiofsd. Each
+Usage: migrated.py FOLDER REPLACED THEIRS..
+REPLACED is the daemon with the layer here, and THEIRS are the words that start virtiofsd. Each
 gets a session from each, in both modes of --migration-mode, over a folder made in FOLDER. What virtiofsd forgets as it
 migrates is the groups and the longer record of SETXATTR that INIT agreed on; the one with the layer here must not.
 Status 0: all came to what they must; 1: not so.
 """
-import contextlib
+import errno
 import os
-import pathlib
-import signal
 import struct
-import subprocess
 import sys
 import tempfile
 
-sys.path.insert(0, str(pathlib.Path(__file__).resolve().parents[2] / "lib"))
-import requests  # noqa: E402
-from shapes import Op, record  # noqa: E402
+import daemon
+from shapes import Op, record
 
 # (a file is found by its handle with this capability alone)
 WORDS = ["--sandbox", "none", "--seccomp", "none", "--xattr", "--posix-acl", "--log-level", "error",
          "--modcaps=+dac_read_search"]
 MODES = "find-paths", "file-handles"
-EACCES = 13
 USER, GROUP = 1000, 2000
 
 
-class Daemon:
-    """A daemon over a folder, and what asks it, once it has loaded a state if there is one."""
+class Daemon(daemon.Daemon):
+    """A daemon over a folder, and what asks it."""
 
     def __init__(self, at, name, words, mode, state=None):
-        """Starts a daemon, and a front end that gives it this saved state first, if there is one."""
-        self.socket, self.at = f"{at}/{name}", at
-        self.process = subprocess.Popen(
-            [*words, "--socket-path", self.socket, "--shared-dir", f"{at}/share", f"--migration-mode={mode}", *WORDS],
-            stdin=subprocess.DEVNULL)
-        self.asking = subprocess.Popen([ASK, self.socket, *([state] if state else [])], stdin=subprocess.PIPE,
-                                       stdout=subprocess.PIPE, text=True)
-
-    def say(self, line):
-        """What ask.c prints of a line."""
-        with contextlib.suppress(BrokenPipeError):
-            self.asking.stdin.write(line + "\n")
-            self.asking.stdin.flush()
-        return self.asking.stdout.readline().rstrip("\n")
-
-    def ask(self, opcode, body=b"", node=1, room=4096, user=0, extensions=b""):
-        """The error and what is after the header of the reply."""
-        made = bytearray(requests.request(opcode, body + extensions, node=node, extensions=len(extensions) // 8))
-        struct.pack_into("<II", made, 24, user, user)
-        said = self.say(requests.line(f"16+{room}", bytes(made)))
-        answer = said.split(" ")
-        if not answer[0].isdigit():
-            raise RuntimeError(f"it says '{said}'")
-        if int(answer[0]) < 16:
-            return f"completed with {answer[0]}", b""
-        reply = bytes.fromhex(answer[1])
-        return -struct.unpack_from("<i", reply, 4)[0], reply[16:int(answer[0])]
-
-    def number(self, *words, **more):
-        """The number at the beginning of a reply, as that of a node or of a handle."""
-        error, reply = self.ask(*words, **more)
-        if error or len(reply) < 8:
-            raise RuntimeError(f"{words[0].name} came to {error}")
-        return struct.unpack_from("<Q", reply)[0]
-
-    def end(self):
-        """Ends both; the daemon may hang."""
-        for process, how in ((self.asking, signal.SIGTERM), (self.process, signal.SIGKILL)):
-            process.send_signal(how)
-            process.wait()
-        with contextlib.suppress(BrokenPipeError):
-            self.asking.stdin.close()
-        self.asking.stdout.close()
+        words = [*words, "--socket-path", "SOCKET", "--shared-dir", "SHARE", f"--migration-mode={mode}", *WORDS]
+        super().__init__(words, f"{at}/{name}", f"{at}/share", state=state)
 
 
 def written(path):
@@ -93,104 +47,100 @@ def names_of(items):
     return found, offset
 
 
-def listed(target, node, handle):
-    """The error and the names of a directory that is read to its end: it may have more than one reply has room for."""
+def listed(client, node, handle):
+    """The names of a directory that is read to its end: it may have more than one reply has room for."""
     found, offset = set(), 0
-    while True:
-        body = requests.transfer(Op.READDIR, 4000, b"", offset, handle=handle)[40:]
-        error, items = target.ask(Op.READDIR, body, node=node)
+    while items := client.read(node, handle, 4000, offset, Op.READDIR):
         more, offset = names_of(items)
-        if error or not more:
-            return error, found
         found |= more
+    return found
 
 
-def begin(source, folder):
+def begin(client, folder):
     """A session of the source: nodes and handles by name."""
-    had = {}
     # (all options of `flags`, and those of `flags2` with groups)
-    error, _ = source.ask(Op.INIT, requests.init(flags=0x7BFFFFFB, flags2=15)[40:])
-    if error:
-        raise RuntimeError(f"INIT came to {error}")
-    had["d"] = source.number(Op.LOOKUP, b"d\0")
-    had["file"] = source.number(Op.LOOKUP, b"file\0", node=had["d"])
-    had["file opened"] = source.number(Op.OPEN, record(Op.OPEN, flags=os.O_RDWR), node=had["file"])
-    had["d opened"] = source.number(Op.OPENDIR, record(Op.OPENDIR), node=had["d"])
-    error, reply = source.ask(Op.CREATE, record(Op.CREATE, flags=os.O_RDWR, mode=0o644) + b"made\0", node=had["d"])
-    had["made"], had["made opened"] = struct.unpack_from("<Q", reply)[0], struct.unpack_from("<Q", reply, 128)[0]
-    error, _ = source.ask(Op.WRITE, requests.transfer(16, 3, b"abc", 10, handle=had["file opened"])[40:], node=had["file"])
-    if error or written(folder + "/d/file") != b"0123456789abc":
-        raise RuntimeError(f"WRITE came to {error}")
+    client.init()
+    had = {"d": client.lookup(b"d")}
+    had["d opened"] = client.open(had["d"], os.O_DIRECTORY)
+    had["file"] = client.lookup(b"file", had["d"])
+    had["file opened"] = client.open(had["file"])
+    had["made"], had["made opened"] = client.create(b"made", had["d"])
+    client.write(had["file"], had["file opened"], b"abc", 10)
+    if written(folder + "/d/file") != b"0123456789abc":
+        raise OSError("WRITE wrote something else")
     return had
 
 
-def go_on(target, had, folder, is_here, mode):
-    """What differs from what it must be, once the target goes on."""
+def go_on(client, had, folder, is_here, mode):
+    """What differs from what it must be, once the target goes on. A request that must succeed raises its error."""
     faults, name = [], "file"
 
     def hold(what, came, wanted):
         if came != wanted:
             faults.append(f"{what}: {came} and not {wanted}")
 
-    def transfer(opcode, of, size, data=b"", place=0):
-        return target.ask(opcode, requests.transfer(opcode, size, data, place, handle=had[of + " opened"])[40:], node=had[of])
+    def opened(of):
+        return had[of], had[of + " opened"]
 
     if mode == "file-handles":
         # (a handle is of the file, wherever that is)
         name = "moved"
         os.rename(folder + "/d/file", folder + "/d/moved")
-    hold("READ", transfer(Op.READ, "file", 100), (0, b"0123456789abc"))
-    hold("WRITE", transfer(Op.WRITE, "file", 3, b"def", 13), (0, struct.pack("<II", 3, 0)))
+    hold("READ", client.read(*opened("file")), b"0123456789abc")
+    hold("WRITE", client.write(*opened("file"), b"def", 13), 3)
     hold("what was written", written(f"{folder}/d/{name}"), b"0123456789abcdef")
-    hold("WRITE to what was made", transfer(Op.WRITE, "made", 4, b"made")[0], 0)
+    hold("WRITE to what was made", client.write(*opened("made"), b"made"), 4)
     hold("what was made", written(folder + "/d/made"), b"made")
-    hold("GETATTR", struct.unpack_from("<Q", target.ask(Op.GETATTR, record(Op.GETATTR), node=had["file"])[1], 24)[0], 16)
-    hold("LOOKUP", target.number(Op.LOOKUP, name.encode() + b"\0", node=had["d"]), had["file"])
-    error, names = listed(target, had["d"], had["d opened"])
-    hold("READDIR", (error, names >= {b".", b"..", name.encode(), b"made", b"other"}), (0, True))
-    other = target.number(Op.LOOKUP, b"other\0", node=had["d"])
-    hold("a new node has a number of its own", other in had.values(), False)
+    hold("GETATTR", struct.unpack_from("<Q", client.getattr(had["file"]), 8)[0], 16)
+    hold("LOOKUP", client.lookup(name.encode(), had["d"]), had["file"])
+    hold("READDIR", listed(client, *opened("d")) >= {b".", b"..", name.encode(), b"made", b"other"}, True)
+    hold("a new node has a number of its own", client.lookup(b"other", had["d"]) in had.values(), False)
     # A user whose group alone may write there, as the extension says.
     groups = struct.pack("<IIII", 16, 32, 1, GROUP)
-    made = target.ask(Op.MKDIR, record(Op.MKDIR, mode=0o755) + b"new\0", node=had["d"], user=USER, extensions=groups)[0]
-    hold("MKDIR by a group", made, 0 if is_here else EACCES)
+    made = client.ask(Op.MKDIR, record(Op.MKDIR, mode=0o755) + b"new\0" + groups, had["d"], uid=USER, gid=USER, extensions=2)
+    hold("MKDIR by a group", made.error, 0 if is_here else errno.EACCES)
     if is_here:
-        value = struct.pack("<IIII", 1, 0, 0, 0) + b"user.a\0v"
-        hold("SETXATTR", (target.ask(Op.SETXATTR, value, node=had["file"])[0], os.getxattr(f"{folder}/d/{name}", "user.a")),
-             (0, b"v"))
+        client.expect(Op.SETXATTR, struct.pack("<IIII", 1, 0, 0, 0) + b"user.a\0v", had["file"])
+        hold("SETXATTR", os.getxattr(f"{folder}/d/{name}", "user.a"), b"v")
     for of in ("file", "made"):
-        hold("RELEASE", target.ask(Op.RELEASE, record(Op.RELEASE, handle=had[of + " opened"]), node=had[of])[0], 0)
-    hold("RELEASEDIR", target.ask(Op.RELEASEDIR, record(Op.RELEASEDIR, handle=had["d opened"]), node=had["d"])[0], 0)
-    # (EBADF)
-    hold("READ of what is released", transfer(Op.READ, "file", 1)[0], 9)
+        client.release(*opened(of))
+    client.release(*opened("d"), Op.RELEASEDIR)
+    released = record(Op.READ, handle=had["file opened"], size=1)
+    hold("READ of what is released", client.ask(Op.READ, released, had["file"]).error, errno.EBADF)
     # The machine starts again.
-    hold("INIT", target.ask(Op.INIT, requests.init(flags=0x7BFFFFFB, flags2=15)[40:])[0], 0)
-    hold("LOOKUP after it", target.ask(Op.LOOKUP, b"d\0")[0], 0)
+    client.init()
+    client.lookup(b"d")
     return faults
+
+
+def fill(at):
+    """Makes the folder that is shared, and returns its path."""
+    folder = at + "/share"
+    os.makedirs(folder + "/d")
+    # (the user of MKDIR goes through it)
+    os.chmod(at, 0o755)
+    for name, data in (("file", b"0123456789"), ("other", b"")):
+        with open(f"{folder}/d/{name}", "wb") as file:
+            file.write(data)
+    os.chown(folder + "/d", 0, GROUP)
+    os.chmod(folder + "/d", 0o770)
+    return folder
 
 
 def migrate(mode, source_words, target_words, is_here):
     """What differs once a session is moved."""
     with tempfile.TemporaryDirectory(dir=FOLDER) as at:
-        folder, state = at + "/share", at + "/state"
-        os.makedirs(folder + "/d")
-        # (the user of MKDIR goes through it)
-        os.chmod(at, 0o755)
-        for name, data in (("file", b"0123456789"), ("other", b"")):
-            with open(f"{folder}/d/{name}", "wb") as file:
-                file.write(data)
-        os.chown(folder + "/d", 0, GROUP)
-        os.chmod(folder + "/d", 0o770)
+        folder = fill(at)
         source = Daemon(at, "source", source_words, mode)
         target = None
         try:
-            had = begin(source, folder)
-            said = source.say(f"save {state}")
-            if said != "saved":
-                return [f"the source says: {said}"]
+            had = begin(source.asking, folder)
+            state = source.asking.leave()
+            if state is None:
+                return ["the source does not save its state"]
             target = Daemon(at, "target", target_words, mode, state)
-            return go_on(target, had, folder, is_here, mode)
-        except (RuntimeError, struct.error, OSError) as error:
+            return go_on(target.asking, had, folder, is_here, mode)
+        except OSError as error:
             return [str(error)]
         finally:
             source.end()
@@ -211,6 +161,6 @@ def main():
 
 
 if __name__ == "__main__":
-    ASK, FOLDER, *REPLACED = sys.argv[1:4]
-    THEIRS = sys.argv[4:]
+    FOLDER, *REPLACED = sys.argv[1:3]
+    THEIRS = sys.argv[3:]
     sys.exit(main())

@@ -4,7 +4,7 @@
 Usage: others.py [--seed N --count M] PEERS FOLDER
 A line of the file PEERS has, with tabs between: `pair` or `vhost`, a name, a version, and the words that start it. Of a pair, DESCRIPTOR in them stands for a socket that keeps
 messages apart, which it serves in place of /dev/fuse; of a vhost, SOCKET and SHARE stand for its socket and
-the folder that it shares, and the first word is the built ask.c. FOLDER gets what it makes.
+the folder that it shares. FOLDER gets what it makes.
 
 The sessions are those of requests.py, flat: each request is one message, without a room, and each session that
 is then the same as one before is left out. In one more each request is whole. Each goes to a new process, and
@@ -34,6 +34,7 @@ import sys
 import tempfile
 
 import beside
+import daemon
 import generate
 import requests
 
@@ -149,7 +150,7 @@ def ask_pair(peer, asked):
             answered, last = talk(ours, asked)
             ours.shutdown(socket.SHUT_RDWR)
         finally:
-            beside.end(process, 2)
+            daemon.end(process, 2)
         log.seek(0)
         return answered, last, log.read(), process.returncode
 
@@ -159,8 +160,8 @@ def ask_vhost(peer, asked):
     # (those that have no reply have no room either)
     lines = [requests.line("0" if opcode(request) in (FORGET, BATCH_FORGET) else f"16+{ROOM}", request)
              for request in (*asked, LAST)]
-    beside.ask, beside.folder = peer.words[0], folder
-    _, answers, log = beside.ask_new(list(peer.words[1:]), lines)
+    beside.folder = folder
+    _, answers, log = beside.ask_new(peer.words, lines)
     answered = [answer.startswith(tuple("123456789")) for answer in answers] + [False] * len(asked)
     last = answers[-1].split()
     whole = len(answers) == len(lines) and len(last) > 1

@@ -1,9 +1,8 @@
 #!/usr/bin/env python3
 """Asks virtiofsd, and the virtiofsd whose protocol layer is replaced, the same requests over equal folders.
 
-Usage: replaced.py ASK FOLDER SEED COUNT REPLACED THEIRS..
-ASK is the built ask.c. REPLACED is the daemon with the layer here, and THEIRS are the words that start
-virtiofsd. Both get the options of DAEMON and a folder of their own, made in FOLDER. Asked are
+Usage: replaced.py FOLDER SEED COUNT REPLACED THEIRS..
+REPLACED is the daemon with the layer here, and THEIRS are the words that start virtiofsd. Both get the options of DAEMON and a folder of their own, made in FOLDER. Asked are
   the hostile requests of requests.py, each session of a new process: the replaced one must answer the
     request after it, and answer all as virtiofsd does, if that goes on
   COUNT well-formed requests by SEED, in sessions with the options of OPTIONS: the replies must be the same,
@@ -15,17 +14,19 @@ Of a reply the numbers of nodes, handles and inodes, the times, and how full the
 Status 0: all were; 1: not so; 2: it could not start.
 """
 import collections
-import concurrent.futures
 import os
 import random
 import re
 import struct
-import subprocess
 import sys
 import tempfile
 
 import beside
+import daemon
+from asking import HUNG_UP, NONE
+import generate
 import generated
+from beside import over
 import requests
 from shapes import Op, record
 
@@ -42,52 +43,26 @@ INIT = requests.line("16+64", requests.init(flags2=15))
 PAST_SIZE = "READ whose room is longer than its size: virtiofsd reads past the size, and answers EIO"
 
 
-class Daemon:
-    """A process, with a folder of its own, and a client of it."""
+class Daemon(daemon.Daemon):
+    """A daemon with a folder of its own, and a client of it."""
 
     def __init__(self, words, at, options):
-        """Starts the words with options, over a new folder below `at`, and what asks it."""
-        self.folder, socket = at + "/share", at + "/socket"
+        """Starts the words with options, over a new folder below `at`."""
+        self.folder, self.log = at + "/share", open(at + "/log", "w+", encoding="utf-8", errors="replace")
         os.mkdir(self.folder)
         generated.fill(self.folder)
-        words = [{"SOCKET": socket, "SHARE": self.folder}.get(word, word) for word in [*words, *DAEMON, *options]]
-        self.log = open(at + "/log", "w+", encoding="utf-8", errors="replace")
         # (the signal of that limit stays ignored, as it is here, so that a call answers EFBIG)
-        self.process = subprocess.Popen([*LIMIT, *words], stdin=subprocess.DEVNULL, stdout=self.log, stderr=self.log,
-                                        restore_signals=False)
-        self.asking = subprocess.Popen([beside.ask, socket], stdin=subprocess.PIPE, stdout=subprocess.PIPE, text=True)
+        super().__init__([*LIMIT, *words, *DAEMON, *options], at + "/socket", self.folder, self.log,
+                         restore_signals=False)
         self.client = generated.Client()
-
-    def ask(self, line):
-        """What ask.c prints of a line; nothing once it is gone."""
-        try:
-            self.asking.stdin.write(line + "\n")
-            self.asking.stdin.flush()
-        except BrokenPipeError:
-            return ""
-        return self.asking.stdout.readline().rstrip("\n")
 
     def descriptors(self):
         """How many it has open: of each node that a client knows there is one."""
         return len(os.listdir(f"/proc/{self.process.pid}/fd"))
 
-    def end(self):
-        """Ends both, whatever state they are in."""
-        for pipe in (self.asking.stdin, self.asking.stdout):
-            try:
-                pipe.close()
-            except BrokenPipeError:
-                pass
-        self.asking.wait()
-        self.process.kill()
-        self.process.wait()
+    def end(self, seconds=0):
+        super().end(seconds)
         self.log.close()
-
-    def __enter__(self):
-        return self
-
-    def __exit__(self, *_):
-        self.end()
 
 
 def plain(client, request, answer):
@@ -150,7 +125,7 @@ def compare(session):
                                  f"{there.client.build(request)[:200]}\n  virtiofsd {answers[0][:300]}\n"
                                  f"  replaced  {answers[1][:300]}")
                     # (one of them is gone, so what follows says nothing)
-                    if "none" in alike or "" in alike:
+                    if {NONE, HUNG_UP} & set(alike):
                         break
             # What the sessions did to the folders, and how many nodes are held open at the end.
             trees = [generated.tree(daemon.folder) for daemon in (there, here)]
@@ -169,24 +144,10 @@ def compare(session):
 def broken(rng, line):
     """A request that is another one in some of its bytes or lengths, in a room of another size."""
     room, pieces = line.split(" ")
-    made = bytearray.fromhex(pieces.replace("+", ""))
-    for _ in range(rng.choice((1, 1, 2, 5))):
-        how = rng.randrange(6)
-        if how == 0:
-            made[rng.randrange(len(made))] = rng.choice((0, 1, 255, rng.randrange(256)))
-        elif how == 1:
-            made = made[:rng.randrange(1, len(made) + 1)]
-        elif how == 2:
-            made += rng.randbytes(rng.randrange(60))
-        elif how == 3 and len(made) >= 4:
-            # (about the header's 40 bytes, the message's own, and the largest)
-            length = rng.choice((0, 39, 40, 41, len(made) - 1, len(made) + 1, 2**32 - 1, 1 << 20, rng.randrange(2**32)))
-            struct.pack_into("<I", made, 0, length & 0xFFFFFFFF)
-        elif how == 4 and len(made) >= 8:
-            struct.pack_into("<I", made, 4, rng.choice((rng.randrange(60), rng.randrange(2**32))))
-        elif len(made) > 48:
-            number = rng.choice((0, 1, 2**64 - 1, 2**63, 2**32, rng.randrange(2**64)))
-            struct.pack_into("<Q", made, rng.randrange(40, len(made) - 7), number)
+    made = bytearray(generate.broken(bytes.fromhex(pieces.replace("+", "")), rng))
+    if len(made) >= 8 and rng.random() < .2:
+        # (of another opcode, or of a number that is none)
+        struct.pack_into("<I", made, 4, rng.choice((rng.randrange(60), rng.randrange(2**32))))
     if len(made) >= 64 and struct.unpack_from("<I", made, 4)[0] == 43:
         # A FALLOCATE past the end of a file takes what it asks for, whatever the limit: at most 64 KiB here.
         struct.pack_into("<Q", made, 56, struct.unpack_from("<Q", made, 56)[0] & 0xFFFF)
@@ -257,33 +218,7 @@ def give_back():
 
 def hostile(session):
     """Of each judged request its name, its kind and its part, and whether both answered the last one."""
-    items, skipped = session
-    lines = [line for _, line in items]
-    both = (beside.ask_new([*words, *DAEMON], lines) for words in (beside.theirs, [replaced]))
-    (_, there, log), (asked, here, said) = both
-    found = []
-    for at in range(skipped, len(items) - 1):
-        answers = [answers[at] if at < len(answers) else "not asked" for answers in (there, here)]
-        kind, part = beside.kind_of(asked[at], *answers, log) if at < len(asked) else (None, "")
-        if kind == beside.DIFFER and part != "attributes":
-            kind = None
-        came = "" if kind else f"{items[at][0]}\n  virtiofsd {answers[0]}\n  replaced  {answers[1]}\n{said}"
-        found.append((items[at][0], kind, part, came))
-    return found, here[-1] == beside.ENOSYS, there[-1] == beside.ENOSYS
-
-
-def over(what, workers, function, sessions):
-    """What a function makes of sessions, that many at a time, with progress."""
-    sessions = list(sessions)
-    with concurrent.futures.ThreadPoolExecutor(workers) as pool:
-        try:
-            for n, one in enumerate(pool.map(function, sessions), 1):
-                yield one
-                if n % 20 == 0 or n == len(sessions):
-                    print(f"{what}: {n} of {len(sessions)} sessions", file=sys.stderr, flush=True)
-        except BaseException:
-            pool.shutdown(cancel_futures=True)
-            raise
+    return beside.judge(session, [*beside.theirs, *DAEMON], [replaced, *DAEMON], ["attributes"])
 
 
 def in_sessions(seed, count):
@@ -346,10 +281,10 @@ if __name__ == "__main__":
     if sys.argv[1:2] in (["-h"], ["--help"]):
         print(__doc__.rstrip())
         sys.exit()
-    if len(sys.argv) < 7 or not all(word.isdigit() for word in sys.argv[3:5]):
+    if len(sys.argv) < 6 or not all(word.isdigit() for word in sys.argv[2:4]):
         print(__doc__.rstrip(), file=sys.stderr)
         sys.exit(2)
-    beside.ask, beside.folder, first_seed, many, replaced, *beside.theirs = sys.argv[1:]
+    beside.folder, first_seed, many, replaced, *beside.theirs = sys.argv[1:]
     try:
         main(int(first_seed), int(many))
     except beside.Stopped as reason:

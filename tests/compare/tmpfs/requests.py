@@ -98,13 +98,13 @@ def shown(operation):
 
 
 class Settings(ctypes.Structure):
-    """The struct nizwarf_settings of nizwarf_tree.h: the time, limits, whose the root is, and flags."""
+    """The struct nizwarf_server_config of nizwarf_tree.h: the time, limits, whose the root is, and flags."""
     _fields_ = [(name, ctypes.c_uint64) for name in ("seconds", "nodes", "bytes", "file")] + [
         (name, ctypes.c_uint32) for name in ("nanoseconds", "uid", "gid", "mode")] + [("flags", ctypes.c_uint64)]
 
 
 class Segment(ctypes.Structure):
-    """The struct nizwarf_segment."""
+    """The struct struct iovec."""
     _fields_ = [("at", ctypes.c_void_p), ("len", ctypes.c_size_t)]
 
 
@@ -116,13 +116,13 @@ class Library:
         self.server, self.length = ctypes.c_void_p(), ctypes.c_size_t()
         self.room = ctypes.create_string_buffer(ROOM)
         # (ctypes takes each argument and result for an int of 32 bits if it isn't told)
-        self.of.nizwarf_copy_at.restype = ctypes.c_size_t
-        self.of.nizwarf_tell_time_at.argtypes = [ctypes.c_void_p, ctypes.c_uint64, ctypes.c_uint32]
-        self.of.nizwarf_message_at.argtypes = [ctypes.c_void_p, ctypes.c_void_p, ctypes.c_size_t, ctypes.c_size_t,
+        self.of.nizwarf_server_copy_at.restype = ctypes.c_size_t
+        self.of.nizwarf_server_set_time_at.argtypes = [ctypes.c_void_p, ctypes.c_uint64, ctypes.c_uint32]
+        self.of.nizwarf_server_handle_at.argtypes = [ctypes.c_void_p, ctypes.c_void_p, ctypes.c_size_t, ctypes.c_size_t,
                                                ctypes.c_void_p]
-        self.of.nizwarf_copy_at.argtypes = [ctypes.c_void_p, ctypes.c_size_t, ctypes.c_void_p, ctypes.c_size_t]
+        self.of.nizwarf_server_copy_at.argtypes = [ctypes.c_void_p, ctypes.c_size_t, ctypes.c_void_p, ctypes.c_size_t]
         settings = Settings(1000, 1 << 20, 1 << 32, 1 << 32, 0, 0, 0, 0o755)
-        if self.of.nizwarf_new_at(ctypes.byref(self.server), 4096, 1 << 20, ctypes.byref(settings)):
+        if self.of.nizwarf_server_new_at(ctypes.byref(self.server), 4096, 1 << 20, ctypes.byref(settings)):
             raise RuntimeError("there is no server")
         self.unique, self.group = 0, 0
         # (all options of 7.31 but 1 << 26, MAP_ALIGNMENT)
@@ -130,7 +130,7 @@ class Library:
 
     def end(self):
         """Ends the server, with its tree."""
-        self.of.nizwarf_end_at(ctypes.byref(self.server))
+        self.of.nizwarf_server_free_at(ctypes.byref(self.server))
 
     def ask(self, opcode, node, body=b"", room=ROOM):
         """What is answered to a request, after its header; an error is raised."""
@@ -143,15 +143,15 @@ class Library:
         pieces = (Segment * 2)(Segment(at, cut), Segment(at + cut, len(message) - cut))
         server = ctypes.byref(self.server)
         # (a second later at each request, so that times that move are seen)
-        self.of.nizwarf_tell_time_at(server, 1000 + self.unique, self.unique % 1000)
-        code = self.of.nizwarf_message_at(server, pieces, 2, room, ctypes.byref(self.length))
+        self.of.nizwarf_server_set_time_at(server, 1000 + self.unique, self.unique % 1000)
+        code = self.of.nizwarf_server_handle_at(server, pieces, 2, room, ctypes.byref(self.length))
         if code:
             raise RuntimeError(f"opcode {opcode} came to {code}")
         # (no reply: of a FORGET)
         length = self.length.value
         if not length:
             return b""
-        self.of.nizwarf_copy_at(server, 0, self.room, length)
+        self.of.nizwarf_server_copy_at(server, 0, self.room, length)
         reply = ctypes.string_at(self.room, length)
         # (the header of a reply)
         told, error, unique = struct.unpack_from("<IiQ", reply)
@@ -295,6 +295,13 @@ class Session:
                 if moves != (now[1][at] != theirs[at]) and (self.is_slow or not moves):
                     self.note(f"{which} of {WATCHED[self.nodes[node].kind]} {'moves' if moves else 'does not move'}")
         return answers[0], second_answer
+
+    def same(self, what, request, call, watched):
+        """Whether both have an answer. Notes that these are another of what it is, if they differ."""
+        answers = self.both(request, call, watched)
+        if answers and answers[0] != answers[1]:
+            self.note(what)
+        return bool(answers)
 
     @staticmethod
     def await_tick(before):
@@ -486,9 +493,7 @@ class Session:
         body = record(Op.WRITE, offset=at, size=length) + bytes([byte]) * length
         call = self.on_file(node, os.O_WRONLY, lambda file: os.pwrite(file, bytes([byte]) * length, at))
         ask = lambda: struct.unpack_from("<I", self.library.ask(Op.WRITE, node, body))[0]
-        if answers := self.both(ask, call, (node,)):
-            if answers[0] != answers[1]:
-                self.note("another count")
+        if self.same("another count", ask, call, (node,)):
             self.compare(node)
 
     def on_file(self, node, flags, act):
@@ -505,9 +510,7 @@ class Session:
         body = record(Op.READ, offset=at, size=length)
         call = self.on_file(node, os.O_RDONLY, lambda file: os.pread(file, length, at))
         self.operation += "" if length else " of no byte"
-        answers = self.both(lambda: self.library.ask(Op.READ, node, body, 16 + length), call, (node,))
-        if answers and answers[0] != answers[1]:
-            self.note("other bytes")
+        self.same("other bytes", lambda: self.library.ask(Op.READ, node, body, 16 + length), call, (node,))
 
     def open(self, of, flags):
         """OPEN, and open(2)."""
@@ -526,9 +529,7 @@ class Session:
                 raise OSError(errno.EINVAL, "")
             return os.readlink(b"", dir_fd=self.file(node))
 
-        answers = self.both(lambda: self.library.ask(Op.READLINK, node), call, (node,))
-        if answers and answers[0] != answers[1]:
-            self.note("another text")
+        self.same("another text", lambda: self.library.ask(Op.READLINK, node), call, (node,))
 
     def may_have(self, node, key):
         """Whether a kernel hands on what is asked of an attribute."""
@@ -547,10 +548,8 @@ class Session:
         """GETXATTR, and getxattr(2)."""
         node = self.pick(of)
         if self.may_have(node, key):
-            if answers := self.both(lambda: self.value(node, key, 1000),
-                                    lambda: os.getxattr(way(self.file(node)), key), (node,)):
-                if answers[0] != answers[1]:
-                    self.note("another value")
+            self.same("another value", lambda: self.value(node, key, 1000),
+                      lambda: os.getxattr(way(self.file(node)), key), (node,))
 
     def value(self, node, key, size):
         return self.library.ask(Op.GETXATTR, node, record(Op.GETXATTR, size=size) + key + b"\0")
@@ -562,9 +561,7 @@ class Session:
         """LISTXATTR, and listxattr(2), in the order of names."""
         node = self.pick(of)
         if self.nodes[node].kind != "l":
-            answers = self.both(lambda: self.keys(node), lambda: keys_of(self.file(node)), (node,))
-            if answers and answers[0] != answers[1]:
-                self.note("other names")
+            self.same("other names", lambda: self.keys(node), lambda: keys_of(self.file(node)), (node,))
 
     def removexattr(self, of, key):
         """REMOVEXATTR, and removexattr(2)."""
@@ -601,9 +598,8 @@ class Session:
             self.operation += " after FALLOCATE"
         body = record(Op.LSEEK, offset=at, whence=whence)
         call = self.on_file(node, os.O_RDONLY, lambda file: os.lseek(file, at, whence))
-        answers = self.both(lambda: struct.unpack("<Q", self.library.ask(Op.LSEEK, node, body))[0], call, (node,))
-        if answers and answers[0] != answers[1]:
-            self.note("another place")
+        ask = lambda: struct.unpack("<Q", self.library.ask(Op.LSEEK, node, body))[0]
+        self.same("another place", ask, call, (node,))
 
     def getattr(self, of):
         self.compare(self.pick(of))
@@ -630,10 +626,8 @@ class Session:
         """IOCTL, and ioctl(2)."""
         node, (number, given, length) = self.pick(of), command
         body = struct.pack("<QIIQII", 0, 0, number, 0, 0 if length else len(given), length) + (b"" if length else given)
-        call = self.on_file(node, os.O_RDONLY, lambda file: fcntl.ioctl(file, number, given)[:length])
-        if answers := self.both(lambda: self.library.ask(IOCTL, node, body), call, (node,)):
-            if answers[0] != bytes(16) + answers[1]:
-                self.note("another value")
+        call = self.on_file(node, os.O_RDONLY, lambda file: bytes(16) + fcntl.ioctl(file, number, given)[:length])
+        self.same("another value", lambda: self.library.ask(IOCTL, node, body), call, (node,))
 
     def forget(self, of, part, batch):
         """Gives back some or all lookups of a node, by FORGET or BATCH_FORGET."""

@@ -1,14 +1,13 @@
-//! A file system of this crate that is one of fuser's: each call is taken, and answered by the reply that the method
-//! gets.
+//! A [`FileSystem`] over a file system for fuser: each call is taken, and answered by the reply object that
+//! the method receives.
 
-use crate::answer::{Data, Text, To};
+use crate::answer::To;
 use crate::attr::SetattrIn;
 use crate::call::Call;
 use crate::client::Client;
 use crate::errno::Errno as Own;
 use crate::file_system::{Context, FileSystem, NoEntries};
-use crate::flags::{FsOptions, Offers, SetattrValid};
-use crate::further::{Limits, PollHandle as Handle};
+use crate::flags::{Features, FsOptions, SetattrValid};
 use crate::fuser::config::{KernelConfig, SessionACL};
 use crate::fuser::errno::Errno;
 use crate::fuser::filesystem::Filesystem;
@@ -24,28 +23,29 @@ use crate::fuser::reply::{
 use crate::fuser::types::{
     time_of, FileHandle, ForgetOne, INodeNo, LockOwner, OpenFlags, Request, TimeOrNow, Version,
 };
+use crate::kinds;
+use crate::names::AsOsStr;
+use crate::optional::{Limits, PollHandle as Handle};
 use crate::server::guard;
 use crate::system;
-use std::ffi::{CStr, OsStr};
 use std::io;
 use std::mem;
-use std::os::unix::ffi::OsStrExt;
 use std::path::Path;
 use std::sync::{Arc, Mutex, PoisonError, RwLock, RwLockReadGuard, RwLockWriteGuard};
 use std::time::SystemTime;
 
-/// A file system, and where its session is.
+/// A file system, and the stage of its session.
 #[derive(Debug)]
 enum Stage<F> {
-    /// There was no INIT.
+    /// Before the INIT.
     New(F),
-    /// There was one.
+    /// After the INIT.
     Begun(F),
     /// The session has ended.
     Over,
 }
 
-/// What an INIT says that [`FileSystem::init`] is not told.
+/// Fields of an INIT that [`FileSystem::init`] does not have as arguments.
 #[derive(Clone, Copy, Debug, Default)]
 struct First {
     context: Context,
@@ -62,27 +62,27 @@ pub(super) struct Adapter<F: Filesystem> {
     /// Why `init` failed.
     failed: Mutex<Option<io::Error>>,
     losses: Arc<Mutex<Vec<Loss>>>,
-    most_write: u32,
+    max_write: u32,
     acl: SessionACL,
     owner: u32,
 }
 
 impl<F: Filesystem> Adapter<F> {
-    /// `most_write` is the largest WRITE in bytes, which INIT's reply tells.
-    pub fn new(files: F, acl: SessionACL, most_write: u32) -> Self {
+    /// `max_write` is the largest WRITE in bytes, which the reply to INIT has.
+    pub fn new(files: F, acl: SessionACL, max_write: u32) -> Self {
         Adapter {
             stage: RwLock::new(Stage::New(files)),
             first: Mutex::default(),
             limits: Mutex::default(),
             failed: Mutex::default(),
             losses: Arc::default(),
-            most_write,
+            max_write,
             acl,
             owner: system::user_and_group().0,
         }
     }
 
-    /// Reads what an INIT says, before it is served.
+    /// Reads fields of an INIT, before it is served.
     pub fn see(&self, request: &[u8]) {
         let word = |at: usize| {
             let bytes = request.get(at..at + 4).and_then(|bytes| bytes.try_into().ok());
@@ -106,12 +106,13 @@ impl<F: Filesystem> Adapter<F> {
         }
     }
 
-    /// The stage, for a call: any number may hold it. That one panicked is let be: the session ends by it.
+    /// The stage, for a call. Any number of calls may lock it at once. A panic of one of them is ignored
+    /// here, because it ends the session.
     fn read(&self) -> RwLockReadGuard<'_, Stage<F>> {
         self.stage.read().unwrap_or_else(PoisonError::into_inner)
     }
 
-    /// The stage, to change it: it waits for the calls that are under way.
+    /// The stage, to change it. This waits for the present calls.
     fn write(&self) -> RwLockWriteGuard<'_, Stage<F>> {
         self.stage.write().unwrap_or_else(PoisonError::into_inner)
     }
@@ -131,9 +132,9 @@ impl<F: Filesystem> Adapter<F> {
         }
     }
 
-    /// Drops what replies had and the kernel did not get.
+    /// Drops the lookups and handles that were in replies that the kernel did not receive.
     fn drop_losses(&self, context: Context) {
-        // (in a statement of its own: a method that is called may answer another call, and lose more)
+        // (in a statement of its own, because a method that is called may answer another call, and lose more)
         let losses = mem::take(&mut *guard(&self.losses));
         for loss in losses {
             self.quietly(context, |files, req| match loss {
@@ -147,9 +148,9 @@ impl<F: Filesystem> Adapter<F> {
         }
     }
 
-    /// Whether a call of this user is made. Those that the kernel makes for nobody are.
+    /// Whether calls of this user are allowed. Calls that the kernel makes for no user always are.
     fn allows(&self, uid: u32, call: &Call<'_>) -> bool {
-        // The kernel makes these for what is open already, by whoever flushes or closes it.
+        // The kernel makes these for open files, with the user of any process that flushes or closes them.
         let is_of_nobody = matches!(
             call,
             Call::Read { .. }
@@ -191,7 +192,7 @@ impl<F: Filesystem> FileSystem for Adapter<F> {
         };
         let First { context, version, readahead } = *guard(&self.first);
         let version = Version(version.0, version.1);
-        let mut config = KernelConfig::new(capable, readahead, self.most_write, version);
+        let mut config = KernelConfig::new(capable, readahead, self.max_write, version);
         match files.init(&Request::new(context), &mut config) {
             Ok(()) => {
                 *stage = Stage::Begun(files);
@@ -202,9 +203,9 @@ impl<F: Filesystem> FileSystem for Adapter<F> {
             Err(error) => {
                 files.destroy();
                 // The client gets a number, and `mount2` the error itself.
-                let told = Errno::from_i32(error.raw_os_error().unwrap_or(0));
+                let number = Errno::from_i32(error.raw_os_error().unwrap_or(0));
                 *guard(&self.failed) = Some(error);
-                Err(told.into())
+                Err(number.into())
             }
         }
     }
@@ -213,8 +214,8 @@ impl<F: Filesystem> FileSystem for Adapter<F> {
         self.end();
     }
 
-    fn offers(&self) -> Offers {
-        Offers::LOCKS | Offers::BMAP | Offers::IOCTL | Offers::POLL
+    fn features(&self) -> Features {
+        Features::LOCKS | Features::BMAP | Features::IOCTL | Features::POLL
     }
 
     fn limits(&self) -> Limits {
@@ -238,7 +239,7 @@ impl<F: Filesystem> FileSystem for Adapter<F> {
         }
         let link = Link { client: client.clone(), losses: Arc::clone(&self.losses) };
         let refuse = |call: Call<'_>, error: Errno| {
-            link.send(&[], |slot| call.fail(slot, &error.into()));
+            link.send(&[], |scratch| call.fail(scratch, &error.into()));
             None
         };
         match &*self.read() {
@@ -252,16 +253,11 @@ impl<F: Filesystem> FileSystem for Adapter<F> {
     }
 }
 
-/// What a call is made with.
+/// The file system, the caller and the client of a call.
 struct Made<'a, F> {
     files: &'a F,
     req: &'a Request,
     link: &'a Link,
-}
-
-/// A name as fuser has it: without a NUL, and of any bytes.
-fn name_of(name: &CStr) -> &OsStr {
-    OsStr::from_bytes(name.to_bytes())
 }
 
 /// The same bits, with a sign.
@@ -270,16 +266,16 @@ const fn signed(bits: u32) -> i32 {
     bits as i32
 }
 
-/// Whether one of these is no place in a file, which has 63 bits.
+/// Whether one of these is no offset in a file, which has 63 bits.
 fn are_too_large(places: &[u64]) -> bool {
     places.iter().any(|place| i64::try_from(*place).is_err())
 }
 
-fn file_data(answer: Answer<Data>) -> ReplyData {
+fn file_data(answer: Answer<kinds::Data>) -> ReplyData {
     ReplyData(DataOf::File(answer))
 }
 
-fn link_data(answer: Answer<Text>) -> ReplyData {
+fn link_data(answer: Answer<kinds::Bytes>) -> ReplyData {
     ReplyData(DataOf::Link(answer))
 }
 
@@ -297,9 +293,9 @@ fn poll_flags(waits: bool) -> PollFlags {
     flags
 }
 
-/// Makes a call by a method of fuser's. Each row has the fields of the call that the method takes, the method with its
-/// arguments, and its reply; after `unless` a condition in which the answer is an error instead. Before the rows there
-/// is what makes other calls.
+/// Makes a call by a method of fuser's. Each line has the fields of the call that the method needs, the
+/// method with its arguments, and its reply; after `unless` a condition under which the answer is an error
+/// instead. The expression after `else` makes all other calls.
 macro_rules! make {
     ($this:ident, $call:ident else $rest:expr; $(
         $Call:ident { $($field:ident),* } => $method:ident($($argument:expr),*) -> $reply:expr
@@ -321,7 +317,7 @@ macro_rules! make {
 }
 
 impl<F: Filesystem> Made<'_, F> {
-    /// What a reply answers by. It may be kept beyond the call, so it has a link of its own.
+    /// The answer for a reply object. It may be kept after the call, so it has a link of its own.
     fn answer<K>(&self, to: To<K>) -> Answer<K> {
         Answer::new(to, self.link)
     }
@@ -330,32 +326,32 @@ impl<F: Filesystem> Made<'_, F> {
     #[allow(clippy::too_many_lines)] // a table
     fn make<'r>(&self, call: Call<'r>) -> Option<Call<'r>> {
         make! { self, call else self.make_other(call);
-            Lookup { parent, name } => lookup(INodeNo(parent), name_of(&name)) -> ReplyEntry;
+            Lookup { parent, name } => lookup(INodeNo(parent), name.as_os_str()) -> ReplyEntry;
             Symlink { linkname, parent, name } =>
-                symlink(INodeNo(parent), name_of(&name), Path::new(name_of(&linkname))) -> ReplyEntry;
+                symlink(INodeNo(parent), name.as_os_str(), Path::new(linkname.as_os_str())) -> ReplyEntry;
             Mknod { parent, name, mode, rdev, umask } =>
-                mknod(INodeNo(parent), name_of(&name), mode, umask, rdev) -> ReplyEntry;
+                mknod(INodeNo(parent), name.as_os_str(), mode, umask, rdev) -> ReplyEntry;
             Mkdir { parent, name, mode, umask } =>
-                mkdir(INodeNo(parent), name_of(&name), mode, umask) -> ReplyEntry;
-            Unlink { parent, name } => unlink(INodeNo(parent), name_of(&name)) -> ReplyEmpty;
-            Rmdir { parent, name } => rmdir(INodeNo(parent), name_of(&name)) -> ReplyEmpty;
+                mkdir(INodeNo(parent), name.as_os_str(), mode, umask) -> ReplyEntry;
+            Unlink { parent, name } => unlink(INodeNo(parent), name.as_os_str()) -> ReplyEmpty;
+            Rmdir { parent, name } => rmdir(INodeNo(parent), name.as_os_str()) -> ReplyEmpty;
             Rename { parent, name, new_parent, new_name, flags } =>
                 rename(
-                    INodeNo(parent), name_of(&name), INodeNo(new_parent), name_of(&new_name),
+                    INodeNo(parent), name.as_os_str(), INodeNo(new_parent), new_name.as_os_str(),
                     RenameFlags::from_bits_retain(flags)
                 ) -> ReplyEmpty;
             Link { node, new_parent, new_name } =>
-                link(INodeNo(node), INodeNo(new_parent), name_of(&new_name)) -> ReplyEntry;
+                link(INodeNo(node), INodeNo(new_parent), new_name.as_os_str()) -> ReplyEntry;
             Create { parent, name, mode, flags, umask } =>
-                create(INodeNo(parent), name_of(&name), mode, umask, signed(flags)) -> ReplyCreate;
+                create(INodeNo(parent), name.as_os_str(), mode, umask, signed(flags)) -> ReplyCreate;
             Getattr { node, handle } => getattr(INodeNo(node), handle.map(FileHandle)) -> ReplyAttr;
             Readlink { node } => readlink(INodeNo(node)) -> link_data;
             Statfs { node } => statfs(INodeNo(node)) -> ReplyStatfs;
             Setxattr { node, name, value, flags } =>
-                setxattr(INodeNo(node), name_of(&name), &value, signed(flags), 0) -> ReplyEmpty;
-            Getxattr { node, name, size } => getxattr(INodeNo(node), name_of(&name), size) -> ReplyXattr;
+                setxattr(INodeNo(node), name.as_os_str(), &value, signed(flags), 0) -> ReplyEmpty;
+            Getxattr { node, name, size } => getxattr(INodeNo(node), name.as_os_str(), size) -> ReplyXattr;
             Listxattr { node, size } => listxattr(INodeNo(node), size) -> ReplyXattr;
-            Removexattr { node, name } => removexattr(INodeNo(node), name_of(&name)) -> ReplyEmpty;
+            Removexattr { node, name } => removexattr(INodeNo(node), name.as_os_str()) -> ReplyEmpty;
             Access { node, mask } =>
                 access(INodeNo(node), AccessFlags::from_bits_retain(signed(mask))) -> ReplyEmpty;
             Bmap { node, block, block_size } => bmap(INodeNo(node), block_size, block) -> ReplyBmap;
@@ -447,7 +443,7 @@ impl<F: Filesystem> Made<'_, F> {
         None
     }
 
-    /// What tells the client of an event. It has the name of who waits, or 0.
+    /// A notifier for an event. Its handle identifies the caller that waits, or is 0.
     fn notifier(&self, wake: Option<Handle>) -> PollNotifier {
         let handle = PollHandle(wake.map_or(0, |wake| wake.0));
         PollNotifier { handle, notifier: Notifier(self.link.client.notifier()) }

@@ -1,21 +1,21 @@
-//! What a session is begun with, as fuser has it.
+//! The parameters of a session, as fuser has them.
 
 use crate::flags::FsOptions;
-use crate::further::Limits;
 use crate::fuser::flags::InitFlags;
 use crate::fuser::types::Version;
 use crate::mount::MountOption as Own;
+use crate::optional::Limits;
 use std::io;
 use std::time::Duration;
 
-/// Whose requests are served. The kernel refuses those of other users than the owner, unless it is told not to.
+/// The users whose requests are served. By default the kernel refuses those of all users except the owner.
 #[derive(Clone, Copy, Debug, Default, Eq, PartialEq)]
 pub enum SessionACL {
-    /// Those of all users.
+    /// All users.
     All,
-    /// Those of root and of the user who mounts.
+    /// Root and the user who mounts.
     RootAndOwner,
-    /// Those of the user who mounts.
+    /// The user who mounts.
     #[default]
     Owner,
 }
@@ -26,22 +26,22 @@ pub enum SessionACL {
 pub struct Config {
     /// Options of the mount.
     pub mount_options: Vec<MountOption>,
-    /// Whose requests are served.
+    /// The users whose requests are served.
     pub acl: SessionACL,
-    /// How many threads serve it: one, if it is not said.
+    /// The number of threads that serve it. By default it is one.
     pub n_threads: Option<usize>,
-    /// It is ignored: all threads have the same descriptor.
+    /// It is ignored, because all threads use the same descriptor.
     pub clone_fd: bool,
 }
 
 /// An option of a mount.
 #[derive(Clone, Debug, Eq, Hash, PartialEq)]
 pub enum MountOption {
-    /// The name of what is mounted.
+    /// The name of the file system, which `mount(8)` lists.
     FSName(String),
     /// The type is `fuse.` and this.
     Subtype(String),
-    /// Another option. There are none: it is refused.
+    /// Another option. It is refused, because this crate has no others.
     #[allow(clippy::upper_case_acronyms)] // the name is fuser's
     CUSTOM(String),
     /// It is unmounted when this process ends.
@@ -54,7 +54,7 @@ pub enum MountOption {
     NoDev,
     /// Set-user-ID programs have their effect.
     Suid,
-    /// They have not, as without an option.
+    /// Set-user-ID programs have no effect, as without an option.
     NoSuid,
     /// Nothing can be written.
     RO,
@@ -66,18 +66,19 @@ pub enum MountOption {
     NoExec,
     /// Reading changes the time of the last access, as without an option.
     Atime,
-    /// It does not.
+    /// Reading does not change the time of the last access.
     NoAtime,
     /// Changes of directories are synchronous.
     DirSync,
     /// Writes are synchronous.
     Sync,
-    /// They are not, as without an option.
+    /// Writes are not synchronous, as without an option.
     Async,
 }
 
 impl MountOption {
-    /// What this crate mounts with, and the option that contradicts it. Nothing says what is so without an option.
+    /// Returns this crate's option, and the option that contradicts this one. Options that only state the
+    /// default have neither.
     fn meaning(&self) -> io::Result<(Option<Own>, Option<MountOption>)> {
         Ok(match self {
             MountOption::FSName(name) => (Some(Own::FSName(name.clone())), None),
@@ -136,14 +137,15 @@ impl Config {
     }
 }
 
-/// What [`init`](crate::fuser::Filesystem::init) tells the kernel, and is told by it.
+/// The capabilities of the kernel, and the options and limits that [`init`](crate::fuser::Filesystem::init)
+/// sets.
 #[derive(Debug)]
 pub struct KernelConfig {
     capabilities: InitFlags,
     requested: InitFlags,
-    most_readahead: u32,
+    max_readahead: u32,
     readahead: u32,
-    most_write: u32,
+    max_write: u32,
     write: u32,
     background: u16,
     congestion: Option<u16>,
@@ -151,20 +153,20 @@ pub struct KernelConfig {
     version: Version,
 }
 
-/// Options that are wanted unless the file system says otherwise.
+/// Options that are wanted by default.
 const WANTED: InitFlags =
     InitFlags::FUSE_ASYNC_READ.union(InitFlags::FUSE_BIG_WRITES).union(InitFlags::FUSE_MAX_PAGES);
 
 impl KernelConfig {
-    pub(super) fn new(capable: FsOptions, readahead: u32, most_write: u32, version: Version) -> Self {
+    pub(super) fn new(capable: FsOptions, readahead: u32, max_write: u32, version: Version) -> Self {
         let capabilities = InitFlags::from_bits_retain(capable.bits());
         KernelConfig {
             capabilities,
             requested: WANTED.intersection(capabilities),
-            most_readahead: readahead,
+            max_readahead: readahead,
             readahead,
-            most_write,
-            write: most_write,
+            max_write,
+            write: max_write,
             background: 16,
             congestion: None,
             granularity: Duration::from_nanos(1),
@@ -172,22 +174,17 @@ impl KernelConfig {
         }
     }
 
-    /// Returns what the kernel offers.
-    #[must_use]
-    pub fn capabilities(&self) -> InitFlags {
-        self.capabilities.difference(InitFlags::FUSE_INIT_EXT)
+    getters! {
+        /// Returns the options of which the kernel is capable.
+        capabilities: InitFlags = |it| it.capabilities.difference(InitFlags::FUSE_INIT_EXT);
+        /// Returns the version of the protocol that the kernel has.
+        kernel_abi: Version = |it| it.version;
     }
 
-    /// Returns the version of the protocol that the kernel has.
-    #[must_use]
-    pub fn kernel_abi(&self) -> Version {
-        self.version
-    }
-
-    /// Asks for options.
+    /// Adds options that the file system wants.
     ///
     /// # Errors
-    /// Those that the kernel does not offer. Then none are asked for.
+    /// The options of which the kernel is not capable. In this case none of them is added.
     pub fn add_capabilities(&mut self, capabilities_to_add: InitFlags) -> Result<(), InitFlags> {
         let missing = capabilities_to_add.difference(self.capabilities);
         if !missing.is_empty() {
@@ -197,23 +194,23 @@ impl KernelConfig {
         Ok(())
     }
 
-    /// Sets how many bytes a WRITE has at most. Returns what it was.
+    /// Sets the maximum number of bytes in a WRITE. Returns the previous one.
     ///
     /// # Errors
-    /// The nearest number that there can be.
+    /// The nearest valid number.
     pub fn set_max_write(&mut self, value: u32) -> Result<u32, u32> {
-        set(&mut self.write, value, 1..=self.most_write)
+        set(&mut self.write, value, 1..=self.max_write)
     }
 
-    /// Sets how many bytes are read ahead at most. Returns what it was.
+    /// Sets the maximum number of bytes that are read ahead. Returns the previous one.
     ///
     /// # Errors
-    /// The nearest number that there can be.
+    /// The nearest valid number.
     pub fn set_max_readahead(&mut self, value: u32) -> Result<u32, u32> {
-        set(&mut self.readahead, value, 1..=self.most_readahead)
+        set(&mut self.readahead, value, 1..=self.max_readahead)
     }
 
-    /// Sets how many requests in the background there are at most. Returns what it was.
+    /// Sets the maximum number of background requests. Returns the previous one.
     ///
     /// # Errors
     /// 1 if it is 0.
@@ -221,7 +218,7 @@ impl KernelConfig {
         set(&mut self.background, value, 1..=u16::MAX)
     }
 
-    /// Sets how many of these make the kernel slow down. Returns what it was.
+    /// Sets the number of background requests from which the kernel slows down. Returns the previous one.
     ///
     /// # Errors
     /// 1 if it is 0.
@@ -232,10 +229,11 @@ impl KernelConfig {
         Ok(before)
     }
 
-    /// Sets the unit of times of files, a power of 10 in nanoseconds up to one second. Returns what it was.
+    /// Sets the unit of times of files, a power of 10 in nanoseconds up to one second. Returns the previous
+    /// one.
     ///
     /// # Errors
-    /// The nearest unit that there can be, which is not longer unless it is 0.
+    /// The nearest valid unit, which is shorter unless the value is 0.
     pub fn set_time_granularity(&mut self, value: Duration) -> Result<Duration, Duration> {
         let units = (0..=9).rev().map(|power| Duration::from_nanos(10_u64.pow(power)));
         let nearest = units.clone().find(|unit| *unit <= value);
@@ -245,21 +243,21 @@ impl KernelConfig {
         }
     }
 
-    /// Would set how many file systems lie below this one. Returns what it is, 0.
+    /// Would set the number of file systems below this one. It can only be 0, which is returned.
     ///
     /// # Errors
-    /// 0, unless it is 0: the kernel cannot be told.
+    /// 0, if the value is not 0, because this crate does not support stacked file systems.
     pub fn set_max_stack_depth(&mut self, value: u32) -> Result<u32, u32> {
         set(&mut 0, value, 0..=0)
     }
 
-    /// By default three quarters of the requests in the background; never more than these.
+    /// By default three quarters of the background requests; never more than these.
     fn threshold(&self) -> u16 {
-        let most = self.background;
-        self.congestion.map_or(most - most / 4 - u16::from(most % 4 != 0), |it| it.min(most))
+        let max = self.background;
+        self.congestion.map_or(max - max / 4 - u16::from(max % 4 != 0), |it| it.min(max))
     }
 
-    /// Returns the options that are asked for, and what else the kernel is told.
+    /// Returns the options that are wanted, and the limits.
     pub(super) fn decided(&self) -> (FsOptions, Limits) {
         let limits = Limits {
             max_readahead: self.readahead,
@@ -273,7 +271,8 @@ impl KernelConfig {
     }
 }
 
-/// Sets a number, if it is one of these, and returns what it was. Otherwise returns the nearest.
+/// Sets a number if it is in the range, and returns the previous one. Otherwise returns the nearest valid
+/// one.
 fn set<T: Copy + Ord>(number: &mut T, value: T, can_be: std::ops::RangeInclusive<T>) -> Result<T, T> {
     if can_be.contains(&value) {
         Ok(std::mem::replace(number, value))
@@ -322,7 +321,7 @@ mod tests {
     }
 
     #[test]
-    fn only_what_is_offered_can_be_asked_for() {
+    fn only_what_the_kernel_has_can_be_added() {
         let mut config = config();
         let (locks, cache) = (InitFlags::FUSE_POSIX_LOCKS, InitFlags::FUSE_WRITEBACK_CACHE);
         assert_eq!(config.add_capabilities(locks | cache), Err(cache));

@@ -1,42 +1,27 @@
-//! Sets of bits, with the names and functions that fuser's have by the crate bitflags. Unlike the sets of this crate
-//! they keep bits without a name.
+//! Sets of bits, with the names and functions that fuser's sets have by the crate bitflags. Unlike the sets
+//! of this crate they keep bits without a name.
 
 use std::fmt;
 use std::ops::{BitAnd, BitAndAssign, BitOr, BitOrAssign, BitXor, BitXorAssign, Not, Sub, SubAssign};
 
-/// Declares a set of bits.
+/// Declares sets of bits.
 macro_rules! bits {
-    ($(#[$about:meta])* $name:ident: $bits:ty { $($(#[$flag_about:meta])* $flag:ident = $value:expr;)* }) => {
-        $(#[$about])*
-        #[derive(Clone, Copy, PartialEq, Eq, Hash)]
-        pub struct $name($bits);
+    ($($(#[$about:meta])* $name:ident: $bits:ty {
+        $($(#[$flag_about:meta])* $flag:ident = $value:expr;)*
+    })*) => {$(
+        set! {
+            $(#[$about])*
+            $name: $bits, self (&self) {
+                $(
+                    $(#[$flag_about])*
+                    #[doc = concat!("\n\nBits: `", stringify!($value), "`")]
+                    $flag = $value;
+                )*
+            }
+        }
 
         #[allow(dead_code, unused_mut)] // (of a set without names)
         impl $name {
-            $(
-                $(#[$flag_about])*
-                #[doc = concat!("\n\nBits: `", stringify!($value), "`")]
-                pub const $flag: Self = Self($value);
-            )*
-
-            /// Returns the empty set.
-            #[must_use]
-            pub const fn empty() -> Self {
-                Self(0)
-            }
-
-            /// Returns the set of all bits that have a name.
-            #[must_use]
-            pub const fn all() -> Self {
-                Self(0 $(| $value)*)
-            }
-
-            /// Returns the bits.
-            #[must_use]
-            pub const fn bits(&self) -> $bits {
-                self.0
-            }
-
             /// Returns the set of these bits, if all have a name.
             #[must_use]
             pub const fn from_bits(bits: $bits) -> Option<Self> {
@@ -47,34 +32,16 @@ macro_rules! bits {
                 }
             }
 
-            /// Returns the set of these bits, without those that have no name.
-            #[must_use]
-            pub const fn from_bits_truncate(bits: $bits) -> Self {
-                Self(bits & Self::all().0)
-            }
-
             /// Returns the set of these bits, also of those that have no name.
             #[must_use]
             pub const fn from_bits_retain(bits: $bits) -> Self {
                 Self(bits)
             }
 
-            /// Returns whether the set is empty.
-            #[must_use]
-            pub const fn is_empty(&self) -> bool {
-                self.0 == 0
-            }
-
             /// Returns whether the set has all bits that have a name.
             #[must_use]
             pub const fn is_all(&self) -> bool {
                 self.contains(Self::all())
-            }
-
-            /// Returns whether the set has all of the others.
-            #[must_use]
-            pub const fn contains(&self, other: Self) -> bool {
-                self.0 & other.0 == other.0
             }
 
             /// Returns whether the set has one of the others.
@@ -93,7 +60,7 @@ macro_rules! bits {
                 self.0 &= !other.0;
             }
 
-            /// Adds those of the others that are not there, and removes those that are.
+            /// Adds those of the others that are not in the set, and removes those that are.
             pub fn toggle(&mut self, other: Self) {
                 self.0 ^= other.0;
             }
@@ -184,7 +151,7 @@ macro_rules! bits {
         }
 
         formats! { $name Display LowerHex UpperHex Octal Binary }
-    };
+    )*};
 }
 
 /// Prints a number with a type of its own as the number that it is.
@@ -199,9 +166,9 @@ macro_rules! formats {
 }
 
 bits! {
-    /// Permissions that [`access`](crate::fuser::Filesystem::access) asks for.
+    /// Permissions that [`access`](crate::fuser::Filesystem::access) checks.
     AccessFlags: i32 {
-        /// Whether the file is there: no bit.
+        /// Whether the file exists: no bit.
         F_OK = 0;
         /// It can be run, or searched.
         X_OK = 1;
@@ -210,19 +177,13 @@ bits! {
         /// It can be read.
         R_OK = 4;
     }
-}
 
-bits! {
-    /// Flags of `chflags(2)`, which Linux does not have: there are none.
+    /// Flags of `chflags(2)`. The set is empty, because Linux does not have them.
     BsdFileFlags: u32 {}
-}
 
-bits! {
-    /// Flags of `copy_file_range(2)`: there are none.
+    /// Flags of `copy_file_range(2)`. The set is empty, because none exists yet.
     CopyFileRangeFlags: u64 {}
-}
 
-bits! {
     /// Options of an open file.
     FopenFlags: u32 {
         /// Reads and writes bypass the cache.
@@ -242,11 +203,9 @@ bits! {
         /// Linux reads and writes another file in its place. It is ignored.
         FOPEN_PASSTHROUGH = 1 << 7;
     }
-}
 
-bits! {
-    /// Options of a session. [`FsOptions`](crate::FsOptions) says what each means; the kernel is taken not to offer
-    /// `FUSE_MAP_ALIGNMENT`, `FUSE_PASSTHROUGH` and `FUSE_OVER_IO_URING`.
+    /// Options of a session. [`FsOptions`](crate::FsOptions) documents each. `FUSE_MAP_ALIGNMENT`,
+    /// `FUSE_PASSTHROUGH` and `FUSE_OVER_IO_URING` are never among the kernel's capabilities here.
     InitFlags: u64 {
         FUSE_ASYNC_READ = 1;
         FUSE_POSIX_LOCKS = 1 << 1;
@@ -292,16 +251,14 @@ bits! {
         FUSE_OVER_IO_URING = 1 << 41;
         FUSE_REQUEST_TIMEOUT = 1 << 42;
     }
-}
 
-bits! {
     /// Flags of an IOCTL.
     IoctlFlags: u32 {
         /// The caller is a program of 32 bits.
         FUSE_IOCTL_COMPAT = 1;
         /// The command may use any memory of the caller.
         FUSE_IOCTL_UNRESTRICTED = 1 << 1;
-        /// It is asked again.
+        /// The request is sent again.
         FUSE_IOCTL_RETRY = 1 << 2;
         /// The caller has pointers of 32 bits.
         FUSE_IOCTL_32BIT = 1 << 3;
@@ -310,9 +267,7 @@ bits! {
         /// The caller is a program of x32.
         FUSE_IOCTL_COMPAT_X32 = 1 << 5;
     }
-}
 
-bits! {
     /// Events of `poll(2)`.
     PollEvents: u32 {
         /// There are data to read.
@@ -336,36 +291,30 @@ bits! {
         /// Data of priority can be written.
         POLLWRBAND = 512;
     }
-}
 
-bits! {
     /// Flags of a POLL.
     PollFlags: u32 {
-        /// The caller waits: tell it by the [`PollNotifier`](crate::fuser::PollNotifier).
+        /// The caller waits, and must be notified by the [`PollNotifier`](crate::fuser::PollNotifier).
         FUSE_POLL_SCHEDULE_NOTIFY = 1;
     }
-}
 
-bits! {
     /// Flags of `renameat2(2)`.
     RenameFlags: u32 {
-        /// What has the new name is not replaced.
+        /// A file with the new name is not replaced.
         RENAME_NOREPLACE = 1;
         /// The two names are exchanged.
         RENAME_EXCHANGE = 2;
         /// A whiteout takes the place of the old name.
         RENAME_WHITEOUT = 4;
     }
-}
 
-bits! {
     /// Flags of a WRITE.
     WriteFlags: u32 {
         /// The data come from the cache of the kernel.
         FUSE_WRITE_CACHE = 1;
-        /// The owner of locks is said.
+        /// The request has the owner of locks.
         FUSE_WRITE_LOCKOWNER = 1 << 1;
-        /// The set-user-ID and set-group-ID bits are to be cleared.
+        /// The file system must clear the set-user-ID and set-group-ID bits.
         FUSE_WRITE_KILL_SUIDGID = 1 << 2;
     }
 }

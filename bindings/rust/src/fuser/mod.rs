@@ -1,8 +1,8 @@
-//! The interface of the crate fuser, version 0.17.0: a file system that is written for it runs over this layer if its
-//! `use fuser::..` becomes `use nizwarf::fuser::..`.
+//! The interface of the crate fuser, version 0.17.0: a file system that is written for it runs over this
+//! layer if its `use fuser::..` becomes `use nizwarf::fuser::..`.
 //!
-//! Names and signatures are fuser's, which stands under the MIT licence. Nothing else of it is here. The page
-//! `FROM-FUSER.md` beside this crate's README has the differences.
+//! Only names and signatures are fuser's, whose licence is MIT. The page `FROM-FUSER.md`, next to this
+//! crate's README, has the differences.
 //!
 //! ```no_run
 //! use nizwarf::fuser::{
@@ -46,8 +46,9 @@
 //! ```
 //!
 //! # Replies
-//! A method gets an object by which it answers, once. It may do so before it returns, or keep it and answer later, on
-//! any thread. One that is dropped answers EIO. An answer that comes after the end of the session goes nowhere.
+//! A method receives a reply object, by which it must answer once. It may do so before it returns, or keep
+//! the object and answer later, on any thread. If the object is dropped, the reply is EIO. An answer after
+//! the end of the session is dropped.
 #![forbid(unsafe_code)]
 
 mod adapter;
@@ -83,32 +84,17 @@ pub use types::{
 pub mod consts {
     /// The lock is one of `flock(2)`.
     pub const FUSE_LK_FLOCK: u32 = 1;
-    /// How many ranges the answer to an IOCTL has at most.
+    /// The maximum number of ranges in the answer to an IOCTL.
     pub const FUSE_IOCTL_MAX_IOV: u32 = 256;
-    /// How long the buffer for requests is at least.
+    /// The minimum length of the buffer for requests.
     pub const FUSE_MIN_READ_BUFFER: usize = 8192;
 }
 
-// All that a file system may keep, or send to another thread.
+// The types that a file system may keep, or send to another thread.
 const _: () = {
-    const fn is_sent<T: Send + Sync + 'static>() {}
-    is_sent::<Notifier>();
-    is_sent::<PollNotifier>();
-    is_sent::<ReplyAttr>();
-    is_sent::<ReplyBmap>();
-    is_sent::<ReplyCreate>();
-    is_sent::<ReplyData>();
-    is_sent::<ReplyDirectory>();
-    is_sent::<ReplyDirectoryPlus>();
-    is_sent::<ReplyEmpty>();
-    is_sent::<ReplyEntry>();
-    is_sent::<ReplyIoctl>();
-    is_sent::<ReplyLock>();
-    is_sent::<ReplyLseek>();
-    is_sent::<ReplyOpen>();
-    is_sent::<ReplyPoll>();
-    is_sent::<ReplyStatfs>();
-    is_sent::<ReplyWrite>();
-    is_sent::<ReplyXattr>();
-    is_sent::<SessionUnmounter>();
+    const fn are_sent<T: Send + Sync + 'static>() {}
+    are_sent::<(Notifier, PollNotifier, SessionUnmounter)>();
+    are_sent::<(ReplyAttr, ReplyBmap, ReplyCreate, ReplyData, ReplyDirectory, ReplyDirectoryPlus)>();
+    are_sent::<(ReplyEmpty, ReplyEntry, ReplyIoctl, ReplyLock, ReplyLseek, ReplyOpen, ReplyPoll)>();
+    are_sent::<(ReplyStatfs, ReplyWrite, ReplyXattr)>();
 };

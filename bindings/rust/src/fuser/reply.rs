@@ -1,18 +1,18 @@
-//! What a call is answered by, as fuser has it.
+//! The reply objects, as fuser has them.
 
-use crate::answer::{
-    Attributes, Controlled, Created, Data, Directory, Done, EntryOf, Events, Locked, Offset, Opened,
-    Statistics, Text, TextOrCount, To, Told, Written,
-};
+use crate::answer::{Encoded, To};
 use crate::attr::Statvfs;
 use crate::client::Client;
-use crate::ffi::{Item, Slot};
-use crate::file_system::{GetxattrReply, ListxattrReply};
+use crate::errno::no_number;
+use crate::ffi::{DirItem, Scratch};
+use crate::file_system::{DirEntry, Entry, GetxattrReply};
 use crate::flags::OpenOptions;
-use crate::further::{IoctlReply, Lock, LockType};
 use crate::fuser::errno::Errno;
 use crate::fuser::flags::{FopenFlags, PollEvents};
 use crate::fuser::types::{entry_of, FileAttr, FileHandle, FileType, Generation, INodeNo};
+use crate::kinds;
+use crate::listing::Listing as Items;
+use crate::optional::{IoctlReply, Lock, LockType};
 use crate::server::{guard, HEADER};
 use std::cell::Cell;
 use std::convert::Infallible;
@@ -23,7 +23,7 @@ use std::os::unix::io::AsFd;
 use std::sync::{Arc, Mutex};
 use std::time::Duration;
 
-/// What a reply had that the kernel does not get, and the file system must drop.
+/// A lookup or handle in a reply that the kernel does not receive. The file system must drop it.
 #[derive(Clone, Copy, Debug, PartialEq, Eq)]
 pub(super) enum Loss {
     /// A lookup of a node.
@@ -32,36 +32,36 @@ pub(super) enum Loss {
     Handle(u64, u64),
 }
 
-/// Where a reply goes.
+/// The destination of a reply.
 #[derive(Clone, Debug)]
 pub(super) struct Link {
     pub client: Client,
-    /// The file system is told of them later: it may hold a lock while it answers.
+    /// They are passed to the file system later, because it may have locked a mutex while it answers.
     pub losses: Arc<Mutex<Vec<Loss>>>,
 }
 
 impl Link {
-    /// Sends the reply that a call is answered with, and its data.
-    pub fn send(&self, data: &[u8], answer: impl for<'s> FnOnce(&'s mut Slot) -> Told<'s>) {
+    /// Encodes an answer, and sends the reply and its data.
+    pub fn send(&self, data: &[u8], answer: impl for<'s> FnOnce(&'s mut Scratch) -> Encoded<'s>) {
         thread_local! {
-            static SLOT: Cell<Slot> = const { Cell::new(Slot::new()) };
+            static SCRATCH: Cell<Scratch> = const { Cell::new(Scratch::new()) };
         }
-        // (at the end of a thread there is none)
-        let mut slot = SLOT.try_with(Cell::take).unwrap_or_default();
-        let told = answer(&mut slot);
-        let lost = told.lost_handle().map(|(node, handle)| Loss::Handle(node, handle));
+        // (at the end of a thread it is destroyed already)
+        let mut scratch = SCRATCH.try_with(Cell::take).unwrap_or_default();
+        let encoded = answer(&mut scratch);
+        let lost = encoded.lost_handle().map(|(node, handle)| Loss::Handle(node, handle));
         let mut losses = Vec::from_iter(lost);
-        let reply = told.give_back(|node| losses.push(Loss::Lookup(node)));
-        // Nobody can be told of an error.
+        let reply = encoded.forget_lost(|node| losses.push(Loss::Lookup(node)));
+        // An error cannot be reported to anybody.
         let _ = self.client.send_with(reply, data);
         if !losses.is_empty() {
             guard(&self.losses).extend(losses);
         }
-        let _ = SLOT.try_with(|kept| kept.set(slot));
+        let _ = SCRATCH.try_with(|kept| kept.set(scratch));
     }
 }
 
-/// Answers a call once. If it is dropped before, the answer is EIO.
+/// Answers a call once. If it is dropped before, the reply is EIO.
 #[derive(Debug)]
 pub(super) struct Answer<K> {
     to: Option<To<K>>,
@@ -73,18 +73,18 @@ impl<K> Answer<K> {
         Answer { to: Some(to), link: Some(link.clone()) }
     }
 
-    /// Answers a call that nobody made.
+    /// An answer that is not sent, for a call that the kernel did not request.
     pub fn to_nobody() -> Self {
         Answer { to: None, link: None }
     }
 
-    fn send(mut self, answer: impl for<'s> FnOnce(To<K>, &'s mut Slot) -> Told<'s>) {
+    fn send(mut self, answer: impl for<'s> FnOnce(To<K>, &'s mut Scratch) -> Encoded<'s>) {
         self.send_with(&[], answer);
     }
 
-    fn send_with(&mut self, data: &[u8], answer: impl for<'s> FnOnce(To<K>, &'s mut Slot) -> Told<'s>) {
+    fn send_with(&mut self, data: &[u8], answer: impl for<'s> FnOnce(To<K>, &'s mut Scratch) -> Encoded<'s>) {
         if let (Some(to), Some(link)) = (self.to.take(), self.link.take()) {
-            link.send(data, |slot| answer(to, slot));
+            link.send(data, |scratch| answer(to, scratch));
         }
     }
 
@@ -92,7 +92,7 @@ impl<K> Answer<K> {
         self.refuse(error);
     }
 
-    /// Says what the answer would have had.
+    /// Records losses of an answer that is replaced by an error.
     fn lose(&self, losses: impl Iterator<Item = Loss>) {
         if let Some(link) = &self.link {
             guard(&link.losses).extend(losses);
@@ -100,7 +100,7 @@ impl<K> Answer<K> {
     }
 
     fn refuse(&mut self, error: Errno) {
-        self.send_with(&[], |to, slot| to.fail(slot, &error.into()));
+        self.send_with(&[], |to, scratch| to.fail(scratch, &error.into()));
     }
 }
 
@@ -110,13 +110,19 @@ impl<K> Drop for Answer<K> {
     }
 }
 
-/// Declares what answers a call, and may answer it with an error.
+/// Declares the reply objects: for each the kind of its answer, and its methods with their answers. All can
+/// also answer with an error.
 macro_rules! replies {
-    ($($(#[$about:meta])* $name:ident: $kind:ty;)*) => {
+    ($(
+        $(#[$about:meta])*
+        $name:ident: $kind:ty {
+            $($(#[$doc:meta])* $method:ident($($argument:ident: $type:ty),* $(,)?) => $result:expr;)*
+        }
+    )*) => {
         $(
             $(#[$about])*
             #[derive(Debug)]
-            #[must_use = "the caller waits for the answer: it is EIO if this is dropped"]
+            #[must_use = "the caller waits for the reply, which is EIO if this is dropped"]
             pub struct $name(pub(super) $kind);
 
             impl $name {
@@ -124,6 +130,14 @@ macro_rules! replies {
                 pub fn error(self, err: Errno) {
                     self.0.fail(err);
                 }
+
+                $(
+                    $(#[$doc])*
+                    pub fn $method(self, $($argument: $type),*) {
+                        let result = $result;
+                        self.0.send(|to, scratch| to.answer(scratch, result));
+                    }
+                )*
             }
         )*
     };
@@ -131,116 +145,77 @@ macro_rules! replies {
 
 replies! {
     /// Answers with attributes.
-    ReplyAttr: Answer<Attributes>;
+    ReplyAttr: Answer<kinds::Attr> {
+        /// Answers with attributes, which are valid for `ttl`.
+        attr(ttl: &Duration, attr: &FileAttr) => Ok((attr.into(), *ttl));
+    }
     /// Answers with the number of a block.
-    ReplyBmap: Answer<Offset>;
+    ReplyBmap: Answer<kinds::Offset> {
+        /// Answers with the number of a block.
+        bmap(block: u64) => Ok(block);
+    }
     /// Answers with a file that was created and opened.
-    ReplyCreate: Answer<Created>;
+    ReplyCreate: Answer<kinds::Create> {
+        /// Answers with an entry, and the handle and options of its open file.
+        created(
+            ttl: &Duration, attr: &FileAttr, generation: Generation, fh: FileHandle, flags: FopenFlags,
+        ) => Ok((entry_of(*ttl, attr, generation), Some(fh.0), options_of(flags)));
+    }
     /// Answers with data of a file, or with the text of a symbolic link.
-    ReplyData: DataOf;
+    ReplyData: DataOf {}
     /// Answers with items of a directory.
-    ReplyDirectory: Listing;
+    ReplyDirectory: Listing {}
     /// Answers with items of a directory and their entries.
-    ReplyDirectoryPlus: Listing;
+    ReplyDirectoryPlus: Listing {}
     /// Answers with success.
-    ReplyEmpty: Answer<Done>;
+    ReplyEmpty: Answer<kinds::Status> {
+        /// Answers with success.
+        ok() => Ok(());
+    }
     /// Answers with an entry.
-    ReplyEntry: Answer<EntryOf>;
+    ReplyEntry: Answer<kinds::Entry> {
+        /// Answers with an entry, whose name and attributes are valid for `ttl`. This is one more lookup of
+        /// its node. The node number 0 means that the name does not exist.
+        entry(ttl: &Duration, attr: &FileAttr, generation: Generation) =>
+            Ok(entry_of(*ttl, attr, generation));
+    }
     /// Answers with the result of a command.
-    ReplyIoctl: Answer<Controlled>;
+    ReplyIoctl: Answer<kinds::Ioctl> {
+        /// Answers with the result of a command, and its output.
+        ioctl(result: i32, data: &[u8]) => Ok(IoctlReply::Done { result, output: data.to_vec() });
+    }
     /// Answers with a lock.
-    ReplyLock: Answer<Locked>;
+    ReplyLock: Answer<kinds::Lock> {
+        /// Answers with a lock of the type `F_RDLCK`, `F_WRLCK` or `F_UNLCK`. For another type the reply is
+        /// EIO.
+        locked(start: u64, end: u64, typ: i32, pid: u32) => {
+            let kind = u32::try_from(typ).ok().and_then(LockType::of);
+            kind.map(|kind| Lock { start, end, kind, pid }).ok_or_else(no_number)
+        };
+    }
     /// Answers with an offset in a file.
-    ReplyLseek: Answer<Offset>;
+    ReplyLseek: Answer<kinds::Offset> {
+        /// Answers with an offset in a file. If it is negative, the reply is EIO.
+        offset(offset: i64) => u64::try_from(offset).map_err(|_| no_number());
+    }
     /// Answers with an open file or directory.
-    ReplyOpen: Answer<Opened>;
+    ReplyOpen: Answer<kinds::Open> {
+        /// Answers with a handle, and options of the open file.
+        opened(fh: FileHandle, flags: FopenFlags) => Ok((Some(fh.0), options_of(flags)));
+    }
     /// Answers with events.
-    ReplyPoll: Answer<Events>;
+    ReplyPoll: Answer<kinds::Poll> {
+        /// Answers with the events that have occurred.
+        poll(revents: PollEvents) => Ok(revents.bits());
+    }
     /// Answers with statistics.
-    ReplyStatfs: Answer<Statistics>;
-    /// Answers with the number of bytes that were written.
-    ReplyWrite: Answer<Written>;
-    /// Answers with an extended attribute, or with their names.
-    ReplyXattr: Answer<TextOrCount>;
-}
-
-impl ReplyAttr {
-    /// Answers with attributes, which are valid for `ttl`.
-    pub fn attr(self, ttl: &Duration, attr: &FileAttr) {
-        let answer = (attr.into(), *ttl);
-        self.0.send(|to, slot| to.answer(slot, Ok(answer)));
-    }
-}
-
-impl ReplyBmap {
-    /// Answers with the number of a block.
-    pub fn bmap(self, block: u64) {
-        self.0.send(|to, slot| to.answer(slot, Ok(block)));
-    }
-}
-
-impl ReplyEmpty {
-    /// Answers with success.
-    pub fn ok(self) {
-        self.0.send(|to, slot| to.answer(slot, Ok(())));
-    }
-}
-
-impl ReplyEntry {
-    /// Answers with an entry, whose name and attributes are valid for `ttl`. The kernel then holds one more lookup of
-    /// its node. A node of number 0 says that there is no such name.
-    pub fn entry(self, ttl: &Duration, attr: &FileAttr, generation: Generation) {
-        let entry = entry_of(*ttl, attr, generation);
-        self.0.send(|to, slot| to.answer(slot, Ok(entry)));
-    }
-}
-
-impl ReplyIoctl {
-    /// Answers with the result of a command, and its output.
-    pub fn ioctl(self, result: i32, data: &[u8]) {
-        let answer = IoctlReply::Done { result, output: data.to_vec() };
-        self.0.send(|to, slot| to.answer(slot, Ok(answer)));
-    }
-}
-
-impl ReplyLock {
-    /// Answers with a lock of the type `F_RDLCK`, `F_WRLCK` or `F_UNLCK`. Another type is answered EIO.
-    pub fn locked(self, start: u64, end: u64, typ: i32, pid: u32) {
-        match u32::try_from(typ).ok().and_then(LockType::of) {
-            Some(kind) => {
-                let lock = Lock { start, end, kind, pid };
-                self.0.send(|to, slot| to.answer(slot, Ok(lock)));
-            }
-            None => self.error(Errno::EIO),
-        }
-    }
-}
-
-impl ReplyLseek {
-    /// Answers with an offset in a file. A negative one is answered EIO.
-    pub fn offset(self, offset: i64) {
-        match u64::try_from(offset) {
-            Ok(offset) => self.0.send(|to, slot| to.answer(slot, Ok(offset))),
-            Err(_) => self.error(Errno::EIO),
-        }
-    }
-}
-
-impl ReplyPoll {
-    /// Answers with the events that are there.
-    pub fn poll(self, revents: PollEvents) {
-        self.0.send(|to, slot| to.answer(slot, Ok(revents.bits())));
-    }
-}
-
-impl ReplyStatfs {
-    /// Answers with statistics.
-    #[allow(clippy::too_many_arguments)] // they are fuser's
-    pub fn statfs(
-        self, blocks: u64, bfree: u64, bavail: u64, files: u64, ffree: u64, bsize: u32, namelen: u32,
-        frsize: u32,
-    ) {
-        let answer = Statvfs {
+    ReplyStatfs: Answer<kinds::Statfs> {
+        /// Answers with statistics.
+        #[allow(clippy::too_many_arguments)] // they are fuser's
+        statfs(
+            blocks: u64, bfree: u64, bavail: u64, files: u64, ffree: u64, bsize: u32, namelen: u32,
+            frsize: u32,
+        ) => Ok(Statvfs {
             f_bsize: bsize.into(),
             f_frsize: frsize.into(),
             f_blocks: blocks,
@@ -249,32 +224,30 @@ impl ReplyStatfs {
             f_files: files,
             f_ffree: ffree,
             f_namemax: namelen.into(),
-        };
-        self.0.send(|to, slot| to.answer(slot, Ok(answer)));
+        });
     }
-}
-
-impl ReplyWrite {
     /// Answers with the number of bytes that were written.
-    pub fn written(self, size: u32) {
-        self.0.send(|to, slot| to.answer(slot, Ok(size as usize)));
+    ReplyWrite: Answer<kinds::Count> {
+        /// Answers with the number of bytes that were written.
+        written(size: u32) => Ok(size as usize);
+    }
+    /// Answers with an extended attribute, or with their names.
+    ReplyXattr: Answer<kinds::BytesOrSize> {
+        /// Answers with the length of the value or of the names. If they were requested themselves, the reply
+        /// is EIO.
+        size(size: u32) => Ok(GetxattrReply::Count(size));
+        /// Answers with the value or the names. If they are longer than the requested size, the reply is
+        /// ERANGE.
+        data(data: &[u8]) => Ok(GetxattrReply::Value(data.to_vec()));
     }
 }
 
-impl ReplyXattr {
-    /// Answers with the length of the value or of the names. It is EIO if they were asked for.
-    pub fn size(self, size: u32) {
-        self.0.send(|to, slot| to.answer(slot, Ok(ListxattrReply::Count(size))));
-    }
-
-    /// Answers with the value or the names. It is ERANGE if they are longer than asked for.
-    pub fn data(self, data: &[u8]) {
-        let answer = GetxattrReply::Value(data.to_vec());
-        self.0.send(|to, slot| to.answer(slot, Ok(answer)));
-    }
+fn options_of(flags: FopenFlags) -> OpenOptions {
+    OpenOptions::from_bits_truncate(flags.bits())
 }
 
-/// A file that Linux reads and writes in place of another. There are none here.
+/// A file that Linux reads and writes in place of another. It has no value, because this crate does not
+/// support this.
 #[derive(Debug)]
 pub struct BackingId {
     never: Infallible,
@@ -287,12 +260,6 @@ impl BackingId {
 }
 
 impl ReplyOpen {
-    /// Answers with a handle, and options of the open file.
-    pub fn opened(self, fh: FileHandle, flags: FopenFlags) {
-        let options = OpenOptions::from_bits_truncate(flags.bits());
-        self.0.send(|to, slot| to.answer(slot, Ok((Some(fh.0), options))));
-    }
-
     /// Would let Linux read and write this file.
     ///
     /// # Errors
@@ -308,15 +275,6 @@ impl ReplyOpen {
 }
 
 impl ReplyCreate {
-    /// Answers with an entry, and the handle and options of its open file.
-    pub fn created(
-        self, ttl: &Duration, attr: &FileAttr, generation: Generation, fh: FileHandle, flags: FopenFlags,
-    ) {
-        let entry = entry_of(*ttl, attr, generation);
-        let options = OpenOptions::from_bits_truncate(flags.bits());
-        self.0.send(|to, slot| to.answer(slot, Ok((entry, Some(fh.0), options))));
-    }
-
     /// As [`ReplyOpen::open_backing`].
     ///
     /// # Errors
@@ -334,11 +292,11 @@ impl ReplyCreate {
     }
 }
 
-/// What a [`ReplyData`] answers.
+/// The answer of a [`ReplyData`].
 #[derive(Debug)]
 pub(super) enum DataOf {
-    File(Answer<Data>),
-    Link(Answer<Text>),
+    File(Answer<kinds::Data>),
+    Link(Answer<kinds::Bytes>),
 }
 
 impl DataOf {
@@ -351,33 +309,14 @@ impl DataOf {
 }
 
 impl ReplyData {
-    /// Answers with data. More than were asked for, or than a link can have, are answered EIO.
+    /// Answers with data. If they are longer than the requested size, or than a link can be, the reply is
+    /// EIO.
     pub fn data(self, data: &[u8]) {
         match self.0 {
             DataOf::File(mut answer) => {
-                answer.send_with(data, |to, slot| to.answer(slot, Ok(data.len())));
+                answer.send_with(data, |to, scratch| to.answer(scratch, Ok(data.len())));
             }
-            DataOf::Link(answer) => answer.send(|to, slot| to.answer(slot, Ok(data))),
-        }
-    }
-}
-
-/// An item of a directory.
-#[derive(Debug)]
-struct Listed {
-    ino: u64,
-    offset: u64,
-    kind: FileType,
-    name: CString,
-    entry: Option<crate::file_system::Entry>,
-}
-
-impl Listed {
-    fn item(&self) -> Item<'_> {
-        let item = Item::new(self.ino, self.offset, self.kind.number(), &self.name);
-        match self.entry {
-            Some(entry) => item.looked_up(&Ok(entry)),
-            None => item,
+            DataOf::Link(answer) => answer.send(|to, scratch| to.answer(scratch, Ok(data))),
         }
     }
 }
@@ -385,36 +324,35 @@ impl Listed {
 /// The items of a reply.
 #[derive(Debug)]
 pub(super) struct Listing {
-    answer: Answer<Directory>,
-    items: Vec<Listed>,
-    /// How many bytes there are for more.
-    left: usize,
+    answer: Answer<kinds::Directory>,
+    items: Items,
+    /// The maximum number of bytes of their records.
+    max: usize,
     /// Whether a name had a NUL.
     is_invalid: bool,
 }
 
 impl Listing {
-    pub fn new(to: To<Directory>, size: u32, link: &Link) -> Self {
-        let left = (size as usize).min(to.room().saturating_sub(HEADER));
-        Listing { answer: Answer::new(to, link), items: Vec::new(), left, is_invalid: false }
+    pub fn new(to: To<kinds::Directory>, size: u32, link: &Link) -> Self {
+        let max = (size as usize).min(to.reply_size().saturating_sub(HEADER));
+        Listing { answer: Answer::new(to, link), items: Items::default(), max, is_invalid: false }
     }
 
-    /// Adds an item, if it fits. Returns whether it does not.
-    fn add(&mut self, item: Listed) -> bool {
-        let len = item.item().record_len(item.entry.is_some());
-        if len > self.left {
-            return true;
+    /// Adds an item and its entry, if it fits. Returns whether it does not fit. If a name has a NUL, the
+    /// reply is EIO.
+    fn add(&mut self, ino: u64, offset: u64, kind: FileType, name: &OsStr, entry: Option<Entry>) -> bool {
+        let name = if let Ok(name) = CString::new(name.as_bytes()) {
+            name
+        } else {
+            self.is_invalid = true;
+            return false;
+        };
+        let item = DirEntry { ino, offset, type_: kind.number(), name: &name };
+        let fits = self.items.add(&item, self.max, entry.is_some());
+        if let Some(entry) = entry.filter(|_| fits) {
+            self.items.set_entry(Ok(entry));
         }
-        self.left -= len;
-        self.items.push(item);
-        false
-    }
-
-    /// The name of an item. With one that has a NUL the listing is answered EIO.
-    fn name(&mut self, name: &OsStr) -> Option<CString> {
-        let name = CString::new(name.as_bytes()).ok();
-        self.is_invalid |= name.is_none();
-        name
+        !fits
     }
 
     fn fail(self, error: Errno) {
@@ -422,24 +360,21 @@ impl Listing {
     }
 
     fn send(self) {
-        let items: Vec<Item<'_>> = self.items.iter().map(Listed::item).collect();
+        let items = self.items.items();
         if self.is_invalid {
-            self.answer.lose(items.iter().filter_map(Item::held).map(Loss::Lookup));
+            self.answer.lose(items.iter().filter_map(DirItem::lookup).map(Loss::Lookup));
             return self.answer.fail(Errno::EIO);
         }
-        self.answer.send(|to, slot| to.answer(slot, Ok(&items)));
+        self.answer.send(|to, scratch| to.answer(scratch, Ok(&items)));
     }
 }
 
 impl ReplyDirectory {
-    /// Adds an item, if it fits, and returns whether it does not. `offset` is the position after it, from which a later
-    /// call continues; it is not 0.
+    /// Adds an item, if it fits, and returns whether it does not fit. `offset` is the position after it, from
+    /// which a later call continues; it must not be 0.
     #[must_use]
     pub fn add<T: AsRef<OsStr>>(&mut self, ino: INodeNo, offset: u64, kind: FileType, name: T) -> bool {
-        match self.0.name(name.as_ref()) {
-            Some(name) => self.0.add(Listed { ino: ino.0, offset, kind, name, entry: None }),
-            None => false,
-        }
+        self.0.add(ino.0, offset, kind, name.as_ref(), None)
     }
 
     /// Answers with the items.
@@ -449,17 +384,14 @@ impl ReplyDirectory {
 }
 
 impl ReplyDirectoryPlus {
-    /// Adds an item and its entry, as [`ReplyDirectory::add`] and [`ReplyEntry::entry`]. Its number is that of the
-    /// attributes. An item that is added is a lookup of its node, but for `.` and `..`.
+    /// Adds an item and its entry, as [`ReplyDirectory::add`] and [`ReplyEntry::entry`]. Its number is that
+    /// of the attributes. An item that is added is a lookup of its node, except `.` and `..`.
     pub fn add<T: AsRef<OsStr>>(
         &mut self, _ino: INodeNo, offset: u64, name: T, ttl: &Duration, attr: &FileAttr,
         generation: Generation,
     ) -> bool {
         let entry = Some(entry_of(*ttl, attr, generation));
-        match self.0.name(name.as_ref()) {
-            Some(name) => self.0.add(Listed { ino: attr.ino.0, offset, kind: attr.kind, name, entry }),
-            None => false,
-        }
+        self.0.add(attr.ino.0, offset, attr.kind, name.as_ref(), entry)
     }
 
     /// Answers with the items.

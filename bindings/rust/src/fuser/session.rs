@@ -8,7 +8,7 @@ use crate::fuser::adapter::Adapter;
 use crate::fuser::config::{Config, SessionACL};
 use crate::fuser::filesystem::Filesystem;
 use crate::fuser::notify::Notifier;
-use crate::mount::Point;
+use crate::mount::{Ends, Point};
 use crate::notifier::Notifier as Own;
 use crate::server::Server;
 use std::fs::File;
@@ -22,8 +22,8 @@ use std::thread::{self, JoinHandle};
 /// Mounts a file system on a folder, and serves it until it is unmounted.
 ///
 /// # Errors
-/// If the options contradict each other or it cannot be mounted, the error of [`Filesystem::init`], and errors of
-/// reading and writing the device. A panic of the file system is one, too.
+/// If the options contradict each other or it cannot be mounted, the error of [`Filesystem::init`], and
+/// errors of reading and writing the device. A panic of the file system is an error, too.
 pub fn mount2<FS: Filesystem, P: AsRef<Path>>(
     filesystem: FS, mountpoint: P, options: &Config,
 ) -> io::Result<()> {
@@ -40,27 +40,16 @@ pub fn spawn_mount2<FS: Filesystem, P: AsRef<Path>>(
     Session::new(filesystem, mountpoint, options)?.spawn()
 }
 
-/// Unmounts when it is dropped.
-#[derive(Debug)]
-struct Ends(Arc<Point>);
-
-impl Drop for Ends {
-    fn drop(&mut self) {
-        // Nobody can be told of an error.
-        let _ = self.0.unmount();
-    }
-}
-
 /// A file system that is mounted, and not served yet. It is unmounted when this is dropped.
 #[derive(Debug)]
 pub struct Session<FS: Filesystem> {
     server: Server<Adapter<FS>>,
-    mount: Ends,
+    mount: Ends<Arc<Point>>,
     threads: usize,
 }
 
-/// Options that are agreed on although the file system does not ask for them, as fuser does.
-const UNASKED: FsOptions = FsOptions::from_bits_truncate(
+/// Options that are agreed on even if the file system does not want them, as fuser does.
+const ALWAYS_AGREED: FsOptions = FsOptions::from_bits_truncate(
     FsOptions::ASYNC_READ.bits()
         | FsOptions::BIG_WRITES.bits()
         | FsOptions::MAX_PAGES.bits()
@@ -78,7 +67,8 @@ impl<FS: Filesystem> Session<FS> {
         Self::begin(filesystem, point, options.acl, threads)
     }
 
-    /// Begins the session of a device that somebody else has mounted: one that returns one request for each read.
+    /// Begins the session of a device that another program has mounted. It must return one request for each
+    /// read.
     ///
     /// # Errors
     /// If the configuration is wrong, and the error of [`Filesystem::init`].
@@ -89,9 +79,9 @@ impl<FS: Filesystem> Session<FS> {
     }
 
     fn begin(filesystem: FS, point: Point, acl: SessionACL, threads: usize) -> io::Result<Session<FS>> {
-        let most_write = crate::door::Session::default().max_buffer();
-        let adapter = Adapter::new(filesystem, acl, most_write);
-        let server = Server::new(adapter).agree_unasked(UNASKED);
+        let max_write = crate::codec::Session::default().max_buffer();
+        let adapter = Adapter::new(filesystem, acl, max_write);
+        let server = Server::new(adapter).always_agree(ALWAYS_AGREED);
         let session = Session { server, mount: Ends(Arc::new(point)), threads };
         session.shake_hands()?;
         Ok(session)
@@ -112,14 +102,14 @@ impl<FS: Filesystem> Session<FS> {
     /// Serves it until it is unmounted.
     pub(super) fn run(self) -> io::Result<()> {
         let serve = || self.server.serve_at(&self.mount.0, self.threads);
-        // Nothing of it is used again after a panic.
+        // No part of it is used after a panic.
         catch_unwind(AssertUnwindSafe(serve)).unwrap_or_else(|_| Err(panicked()))
     }
 
     /// Serves it in the background.
     ///
     /// # Errors
-    /// If there can be no thread.
+    /// If no thread can be created.
     pub fn spawn(self) -> io::Result<BackgroundSession> {
         let mount = Ends(Arc::clone(&self.mount.0));
         let guard = thread::Builder::new().spawn(move || self.run())?;
@@ -134,12 +124,12 @@ impl<FS: Filesystem> Session<FS> {
         self.mount.0.unmount()
     }
 
-    /// Returns what unmounts it, on any thread.
+    /// Returns an object that unmounts it, on any thread.
     pub fn unmount_callable(&mut self) -> SessionUnmounter {
         SessionUnmounter(Arc::downgrade(&self.mount.0))
     }
 
-    /// Returns what tells the kernel of changes.
+    /// Returns a notifier for the kernel.
     #[must_use]
     pub fn notifier(&self) -> Notifier {
         notifier_of(&self.mount)
@@ -152,7 +142,7 @@ impl<FS: Filesystem> AsFd for Session<FS> {
     }
 }
 
-fn notifier_of(mount: &Ends) -> Notifier {
+fn notifier_of(mount: &Ends<Arc<Point>>) -> Notifier {
     Notifier(Own::new(Arc::downgrade(&mount.0.device)))
 }
 
@@ -165,7 +155,7 @@ fn panicked() -> io::Error {
 pub struct SessionUnmounter(Weak<Point>);
 
 impl SessionUnmounter {
-    /// Unmounts the session, unless that was done.
+    /// Unmounts the session, unless it is unmounted already.
     ///
     /// # Errors
     /// If it cannot be unmounted.
@@ -179,7 +169,7 @@ impl SessionUnmounter {
 pub struct BackgroundSession {
     /// The thread that serves it.
     pub guard: JoinHandle<io::Result<()>>,
-    mount: Ends,
+    mount: Ends<Arc<Point>>,
 }
 
 impl BackgroundSession {
@@ -192,13 +182,13 @@ impl BackgroundSession {
         self.join()
     }
 
-    /// Returns what tells the kernel of changes.
+    /// Returns a notifier for the kernel.
     #[must_use]
     pub fn notifier(&self) -> Notifier {
         notifier_of(&self.mount)
     }
 
-    /// Waits until somebody unmounts it.
+    /// Blocks until it is unmounted.
     ///
     /// # Errors
     /// As [`mount2`].

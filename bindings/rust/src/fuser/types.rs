@@ -1,7 +1,8 @@
 //! Types of calls and answers, as fuser has them.
 
 use crate::attr::Attr;
-use crate::file_system::{Context, Entry, DT_DIR, DT_LNK, DT_REG};
+use crate::consts::{DT_BLK, DT_CHR, DT_DIR, DT_FIFO, DT_LNK, DT_REG, DT_SOCK};
+use crate::file_system::{Context, Entry};
 use std::fmt;
 use std::time::{Duration, SystemTime, UNIX_EPOCH};
 
@@ -94,16 +95,16 @@ impl FileType {
         kinds.iter().find(|(is_it, _)| *is_it).map(|(_, kind)| *kind)
     }
 
-    /// The type as an item of a directory has it. In a mode it is 12 bits higher.
+    /// The type as in an item of a directory. In a mode it is 12 bits higher.
     pub(super) fn number(self) -> u32 {
         match self {
-            FileType::NamedPipe => 1,
-            FileType::CharDevice => 2,
+            FileType::NamedPipe => DT_FIFO,
+            FileType::CharDevice => DT_CHR,
             FileType::Directory => DT_DIR,
-            FileType::BlockDevice => 6,
+            FileType::BlockDevice => DT_BLK,
             FileType::RegularFile => DT_REG,
             FileType::Symlink => DT_LNK,
-            FileType::Socket => 12,
+            FileType::Socket => DT_SOCK,
         }
     }
 }
@@ -123,7 +124,7 @@ pub struct FileAttr {
     pub mtime: SystemTime,
     /// The time of the last change of the attributes.
     pub ctime: SystemTime,
-    /// The time of the birth, which Linux is not told.
+    /// The time of birth, which is not sent.
     pub crtime: SystemTime,
     /// The type.
     pub kind: FileType,
@@ -139,7 +140,7 @@ pub struct FileAttr {
     pub rdev: u32,
     /// The preferred size of reads and writes.
     pub blksize: u32,
-    /// Flags of `chflags(2)`, which Linux is not told.
+    /// Flags of `chflags(2)`, which are not sent.
     pub flags: u32,
 }
 
@@ -179,7 +180,8 @@ pub(super) fn entry_of(ttl: Duration, attr: &FileAttr, generation: Generation) -
     }
 }
 
-/// The seconds since 1970, of which the protocol has the bits of a signed number, and the nanoseconds after them.
+/// The seconds since 1970, of which the protocol has the bits of a signed number, and the nanoseconds after
+/// them.
 fn seconds_of(time: SystemTime) -> (u64, u32) {
     match time.duration_since(UNIX_EPOCH) {
         Ok(after) => (after.as_secs(), after.subsec_nanos()),
@@ -193,7 +195,7 @@ fn seconds_of(time: SystemTime) -> (u64, u32) {
     }
 }
 
-/// The time of these seconds and nanoseconds. What is no time is 1970.
+/// The time of these seconds and nanoseconds, or 1970 if a `SystemTime` cannot have them.
 pub(super) fn time_of(seconds: u64, nanoseconds: u32) -> SystemTime {
     #[allow(clippy::cast_possible_wrap)] // the bits of a signed number
     let signed = seconds as i64;
@@ -230,7 +232,7 @@ pub enum OpenAccMode {
 pub struct OpenFlags(pub i32);
 
 impl OpenFlags {
-    /// Returns how the file is opened. A mode that there is not is taken for reading.
+    /// Returns how the file is opened. An unknown mode counts as reading.
     #[must_use]
     pub fn acc_mode(self) -> OpenAccMode {
         match self.0 & 3 {
@@ -243,7 +245,7 @@ impl OpenFlags {
 
 formats! { OpenFlags LowerHex UpperHex }
 
-/// Who asks.
+/// The caller of a request.
 #[derive(Debug)]
 pub struct Request {
     context: Context,
@@ -254,28 +256,15 @@ impl Request {
         Request { context }
     }
 
-    /// Returns the number of the request.
-    #[must_use]
-    pub fn unique(&self) -> RequestId {
-        RequestId(self.context.unique)
-    }
-
-    /// Returns the user ID.
-    #[must_use]
-    pub fn uid(&self) -> u32 {
-        self.context.uid
-    }
-
-    /// Returns the group ID.
-    #[must_use]
-    pub fn gid(&self) -> u32 {
-        self.context.gid
-    }
-
-    /// Returns the process ID.
-    #[must_use]
-    pub fn pid(&self) -> u32 {
-        u32::from_le_bytes(self.context.pid.to_le_bytes())
+    getters! {
+        /// Returns the number of the request.
+        unique: RequestId = |it| RequestId(it.context.unique);
+        /// Returns the user ID.
+        uid: u32 = |it| it.context.uid;
+        /// Returns the group ID.
+        gid: u32 = |it| it.context.gid;
+        /// Returns the process ID.
+        pid: u32 = |it| u32::from_le_bytes(it.context.pid.to_le_bytes());
     }
 }
 
@@ -287,16 +276,11 @@ pub struct ForgetOne {
 }
 
 impl ForgetOne {
-    /// Returns the number of the node.
-    #[must_use]
-    pub fn nodeid(&self) -> INodeNo {
-        INodeNo(self.node)
-    }
-
-    /// Returns how many lookups are dropped.
-    #[must_use]
-    pub fn nlookup(&self) -> u64 {
-        self.count
+    getters! {
+        /// Returns the number of the node.
+        nodeid: INodeNo = |it| INodeNo(it.node);
+        /// Returns the number of lookups that are dropped.
+        nlookup: u64 = |it| it.count;
     }
 }
 

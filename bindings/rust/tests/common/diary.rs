@@ -2,10 +2,11 @@
 
 use super::{fault, padded, reply, words, Request};
 use nizwarf::{
-    Attr, Call, Context, DirEntry, DirectoryIterator, Entry, Extensions, FileSystem, FsOptions,
-    GetxattrReply, IoctlFlags, IoctlReply, ListxattrReply, Lock, LockType, Offers, OpenOptions, PollHandle,
+    Attr, Call, Context, DirEntry, DirectoryIterator, Entry, Extensions, Features, FileSystem, FsOptions,
+    GetxattrReply, IoctlFlags, IoctlReply, ListxattrReply, Lock, LockType, OpenOptions, PollHandle,
     SetattrIn, SetattrValid, SetxattrFlags, Statvfs, Statx, ZeroCopyReader, ZeroCopyWriter,
 };
+use std::borrow::Cow;
 use std::ffi::{CStr, CString};
 use std::fs::File;
 use std::io;
@@ -30,7 +31,7 @@ impl Diary {
         Diary { file: Some(file), ..Diary::default() }
     }
 
-    /// The lines since it was asked last.
+    /// The lines since they were last read.
     pub fn take(&self) -> Vec<String> {
         std::mem::take(&mut *self.lines.lock().unwrap())
     }
@@ -47,6 +48,7 @@ impl Names {
             2 => vec!["a", "none", "b"],
             3 => vec!["none"],
             4 => vec!["a", "panic"],
+            8 => vec![".", "..", "a", "some-name", "none"],
             _ => vec![],
         };
         let names: Vec<_> = names.into_iter().map(|name| CString::new(name).unwrap()).collect();
@@ -63,8 +65,8 @@ impl DirectoryIterator for Names {
     }
 }
 
-fn text(name: &CStr) -> &str {
-    name.to_str().unwrap()
+fn text(name: &CStr) -> Cow<'_, str> {
+    name.to_string_lossy()
 }
 
 fn lock_text(lock: Lock) -> String {
@@ -99,8 +101,8 @@ impl FileSystem for Diary {
         self.write(format!("interrupt {unique}"));
     }
 
-    fn offers(&self) -> Offers {
-        Offers::all()
+    fn features(&self) -> Features {
+        Features::all()
     }
 
     fn lookup(&self, ctx: Context, parent: u64, name: &CStr) -> io::Result<Entry> {
@@ -126,9 +128,17 @@ impl FileSystem for Diary {
         if let Some(file) = &self.file {
             return w.read_from_file_at(file, size as usize, offset);
         }
-        w.write_all(b"data")?;
-        // For handle 9 it returns more than it put.
-        Ok(if handle == 9 { 5 } else { 4 })
+        if size < 300 {
+            w.write_all(b"data")?;
+            // For handle 9 it returns more than it put.
+            return Ok(if handle == 9 { 5 } else { 4 });
+        }
+        // As much of longer data as fits.
+        let mut put = 0;
+        while let more @ 1.. = w.write(&[b'y'; 300][put..])? {
+            put += more;
+        }
+        Ok(put)
     }
 
     fn write<R: ZeroCopyReader>(
@@ -140,6 +150,7 @@ impl FileSystem for Diary {
         }
         let mut data = String::new();
         let len = r.read_to_string(&mut data)?;
+        assert!(len <= size as usize);
         self.write(format!(
             "write {inode} {handle} {data} {size} {offset} {lock_owner:?} {delayed_write} \
              {kill_priv} {flags}"
@@ -152,7 +163,7 @@ impl FileSystem for Diary {
     }
 
     methods! {
-        init(capable: FsOptions) -> FsOptions: ["init {capable:?}"] FsOptions::SETXATTR_EXT;
+        init(capable: FsOptions) -> FsOptions: ["init {capable:?}"] capable - FsOptions::POSIX_LOCKS;
         getattr(_: Context, inode: u64, handle: Option<u64>) -> (Attr, Duration):
             ["getattr {inode} {handle:?}"] (Attr { size: 5, ..Attr::default() }, Duration::from_secs(1));
         setattr(_: Context, inode: u64, attr: SetattrIn, handle: Option<u64>, valid: SetattrValid)
@@ -163,8 +174,11 @@ impl FileSystem for Diary {
             ["symlink {} {parent} {}", text(linkname), text(name)] node();
         mknod(_: Context, inode: u64, name: &CStr, mode: u32, rdev: u32, umask: u32, _: Extensions) -> Entry:
             ["mknod {inode} {} {mode:o} {rdev} {umask:o}", text(name)] node();
-        mkdir(_: Context, parent: u64, name: &CStr, mode: u32, umask: u32, _: Extensions) -> Entry:
-            ["mkdir {parent} {} {mode:o} {umask:o}", text(name)] node();
+        mkdir(_: Context, parent: u64, name: &CStr, mode: u32, umask: u32, extensions: Extensions) -> Entry:
+            ["mkdir {parent} {} {mode:o} {umask:o}", text(name)] {
+                assert!(extensions.secctx.map_or(true, |context| !context.secctx.is_empty()));
+                node()
+            };
         unlink(_: Context, parent: u64, name: &CStr) -> (): ["unlink {parent} {}", text(name)] ();
         rmdir(_: Context, parent: u64, name: &CStr) -> (): ["rmdir {parent} {}", text(name)] ();
         rename(_: Context, olddir: u64, oldname: &CStr, newdir: u64, newname: &CStr, flags: u32) -> ():
@@ -251,20 +265,20 @@ pub fn entry() -> Vec<u8> {
     padded(&[50], 128)
 }
 
-/// A request for a call, and what is to come of it.
+/// A request, with its call, its line in the diary and its replies.
 pub struct Row {
     pub request: Request,
-    /// Whether a call is the one that it asks for.
+    /// Whether a call is that of the request.
     pub is: fn(&Call<'_>) -> bool,
-    /// What the diary has of it.
+    /// Its line in the diary.
     pub line: &'static str,
     /// The diary's reply, and that of the default method.
     pub reply: Vec<u8>,
     pub default: Vec<u8>,
 }
 
-/// Makes rows of requests, the calls that they ask for, lines and replies; and, after `or`, the reply of the
-/// default method, which is else ENOSYS.
+/// Makes a table of requests, their calls, lines and replies; and, after `or`, the reply of the default
+/// method, which otherwise is ENOSYS.
 macro_rules! rows {
     (default) => { fault(38) };
     (default $default:expr) => { $default };

@@ -86,7 +86,7 @@ pub fn delivered(opcode: u32, reply: &[u8]) -> i64 {
     }
     let is_node = |entry: &[u8]| i64::from(u64::from(word(entry, 0)) == NODE);
     match opcode {
-        1 | 9 | 35 | 51 => is_node(&reply[16..]),
+        1 | 6 | 8 | 9 | 13 | 35 | 51 => is_node(&reply[16..]),
         44 => {
             let (mut at, mut count) = (16, 0);
             while at < reply.len() {

@@ -4,7 +4,7 @@
 pub mod diary;
 pub mod hostile;
 
-use nizwarf::{Asked, Call, Context, FsOptions, Offers, Session, Slot};
+use nizwarf::{Call, Context, Decoded, Features, FsOptions, Scratch, Session};
 use std::fs::File;
 use std::io::IoSlice;
 use std::os::unix::io::OwnedFd;
@@ -65,7 +65,7 @@ pub fn reading(opcode: u32, node: u64, offset: u64, size: u32) -> Request {
     Request::new(opcode, node).u64(8).u64(offset).u32(size).u32(0).u64(0).u32(0).u32(0)
 }
 
-/// An INIT of version 7.38 that offers these options, and of the second half `flags2`.
+/// An INIT of version 7.38 with these options, and `flags2` as their second half.
 pub fn init(readahead: u32, flags: u32, flags2: u32) -> Request {
     let request = Request::new(26, 0).u32(7).u32(38).u32(readahead);
     request.u32(flags).u32(flags2).bytes(&[0; 44])
@@ -126,29 +126,37 @@ impl Peer {
         bytes
     }
 
-    pub fn ask(&self, request: &[u8]) -> Vec<u8> {
+    pub fn exchange(&self, request: &[u8]) -> Vec<u8> {
         self.send(request);
         self.receive()
     }
 }
 
-/// A session in which all calls are offered.
+/// A session in which all optional operations are enabled.
 pub fn session(options: FsOptions) -> Session {
     let mut session = Session::default();
     session.set_options(options);
-    session.set_offers(Offers::all());
+    session.set_features(Features::all());
     session
 }
 
-/// Asks for the call of a request, once for each way to cut it into two slices.
+/// Returns the call of a request, with a buffer of this size for its reply.
+pub fn call_of<'r>(scratch: &mut Scratch, request: &'r [IoSlice<'r>], reply_size: usize) -> Call<'r> {
+    match scratch.decode(&session(FsOptions::empty()), request, reply_size) {
+        Decoded::Call(pending) => pending.call,
+        Decoded::Finished(done) => panic!("{done:?}"),
+    }
+}
+
+/// Decodes a request, once for each way to cut it into two slices.
 pub fn each_cutting(options: FsOptions, request: &[u8], mut test: impl FnMut(Context, Call<'_>)) {
-    let mut slot = Slot::new();
+    let mut scratch = Scratch::new();
     for cut in 0..=request.len() {
         let (first, second) = request.split_at(cut);
         let slices = [IoSlice::new(first), IoSlice::new(second)];
-        match slot.ask(&session(options), &slices, 4096) {
-            Asked::Call(pending) => test(pending.context, pending.call),
-            Asked::Finished(done) => panic!("cut at {cut}: {done:?}"),
+        match scratch.decode(&session(options), &slices, 4096) {
+            Decoded::Call(pending) => test(pending.context, pending.call),
+            Decoded::Finished(done) => panic!("cut at {cut}: {done:?}"),
         }
     }
 }

@@ -32,6 +32,7 @@ ghost use Rattle.std.specs.Prelude.{◌≤◌, ℕ, List, IfOk};
 ghost use Rattle.vfs_files.specs.Answers.{Counts};
 ghost use Rattle.vfs_files.specs.CallValue.{IsOptions, IsEntry, IsAttributes, IsText, IsTextOrCount};
 
+use crate::Said;
 use crate::seeded::contents::Contents;
 use crate::seeded::listing::{DirectoryItems, Seeded};
 use crate::seeded::notes::Notes;
@@ -43,7 +44,7 @@ use std::cell::RefCell;
 use std::collections::VecDeque;
 use std::mem;
 use vfs_files::{CStr, Context, Given, ZeroCopyReader, ZeroCopyWriter};
-use vfs_flags::{Errno, Fault, FsOptions, OpenOptions};
+use vfs_flags::{Errno, FsOptions, OpenOptions};
 use vfs_wire::{Attr, SetattrIn};
 
 mod calls;
@@ -94,7 +95,7 @@ impl<'a> SeededFs<'a> {
     }
 
     // The seed, or the fault that is the answer.
-    fn seed(&self) -> Result<Source, Fault> {
+    fn seed(&self) -> Said<Source> {
         let word = self.notes.process();
         let seed = word / 8;
         if word % 8 == 7 {
@@ -105,7 +106,7 @@ impl<'a> SeededFs<'a> {
     }
 
     // What the answer hangs on, or the fault that is the answer.
-    fn source(&self) -> Result<Source, Fault> {
+    fn source(&self) -> Said<Source> {
         match self.next_told() {
             Some(told) => told.source(),
             None => self.seed(),
@@ -113,7 +114,7 @@ impl<'a> SeededFs<'a> {
     }
 
     // The options that are wanted.
-    fn wanted(&self) -> Result<Given, Fault>
+    fn wanted(&self) -> Said<Given>
         ensures { IsOptions result }
     {
         let bits = match self.source()? {
@@ -124,7 +125,7 @@ impl<'a> SeededFs<'a> {
     }
 
     // What LOOKUP finds.
-    fn found(&self, ctx: &Context, name: CStr<'_>) -> Result<Given, Fault>
+    fn found(&self, ctx: &Context, name: CStr<'_>) -> Said<Given>
         ensures { IsEntry result }
     {
         let source = match self.next_told() {
@@ -139,14 +140,14 @@ impl<'a> SeededFs<'a> {
     }
 
     // The entry of a node that is made or gets a name.
-    fn made(&self, ctx: &Context, name: CStr<'_>) -> Result<Given, Fault>
+    fn made(&self, ctx: &Context, name: CStr<'_>) -> Said<Given>
         ensures { IsEntry result }
     {
         Ok(Given::Found(self.source()?.entry(ctx, name.to_bytes())))
     }
 
     // A reading of a directory from this place on.
-    fn listing(&self, place: u64) -> Result<DirectoryItems, Fault> {
+    fn listing(&self, place: u64) -> Said<DirectoryItems> {
         let source = match self.next_told() {
             Some(Told::Directory(directory)) => return Ok(DirectoryItems::Told(
                 directory.entries()?,
@@ -158,7 +159,7 @@ impl<'a> SeededFs<'a> {
     }
 
     // The attributes of a node.
-    fn attributes(&self, ctx: &Context, inode: u64, handle: Option<u64>) -> Result<Given, Fault>
+    fn attributes(&self, ctx: &Context, inode: u64, handle: Option<u64>) -> Said<Given>
         ensures { IsAttributes result }
     {
         let t = u64::from(self.source()?.as_seed()) + inode % 1000 + handle.unwrap_or(0) % 7;
@@ -173,7 +174,7 @@ impl<'a> SeededFs<'a> {
         set: &SetattrIn,
         nlink: u32,
         flags: u32,
-    ) -> Result<Given, Fault>
+    ) -> Said<Given>
         ensures { IsAttributes result }
     {
         let t = u64::from(self.source()?.as_seed());
@@ -196,12 +197,7 @@ impl<'a> SeededFs<'a> {
     }
 
     // Puts bytes of a file into `w`.
-    fn read_file<W: ZeroCopyWriter>(
-        &mut self,
-        w: &mut W,
-        size: u32,
-        offset: u64,
-    ) -> Result<usize, Fault>
+    fn read_file<W: ZeroCopyWriter>(&mut self, w: &mut W, size: u32, offset: u64) -> Said<usize>
         ensures { (bytes : List ℕ) × W.puts w.old bytes w.new × Counts result bytes size }
     {
         let seed = self.source()?.as_seed();
@@ -212,12 +208,7 @@ impl<'a> SeededFs<'a> {
     }
 
     // Takes bytes from `r` for a file.
-    fn write_file<R: ZeroCopyReader>(
-        &mut self,
-        r: &mut R,
-        size: u32,
-        offset: u64,
-    ) -> Result<usize, Fault>
+    fn write_file<R: ZeroCopyReader>(&mut self, r: &mut R, size: u32, offset: u64) -> Said<usize>
         ensures taken { (bytes : List ℕ) × R.takes r.old bytes r.new }
         ensures within { IfOk result (λ n. n ≤ size) }
     {
@@ -235,7 +226,7 @@ impl<'a> SeededFs<'a> {
     }
 
     // The text of a link.
-    fn text(&self) -> Result<Given, Fault>
+    fn text(&self) -> Said<Given>
         ensures { IsText result }
     {
         let seed = self.source()?.as_seed();
@@ -243,7 +234,7 @@ impl<'a> SeededFs<'a> {
     }
 
     // The bytes of extended attributes, or their length where there is to be no more.
-    fn attribute(&self) -> Result<Given, Fault>
+    fn attribute(&self) -> Said<Given>
         ensures { IsTextOrCount result }
     {
         let seed = self.source()?.as_seed();

@@ -12,7 +12,7 @@ ghost use Rattle.vhost_protocol.specs.declared.chains.regions.Place.{Place};
 ghost use Rattle.vhost_protocol.specs.declared.chains.regions.Region.{Region};
 ghost use Rattle.vhost_protocol.specs.declared.chains.walk.Piece.{Piece};
 ghost use Rattle.vhost_protocol.specs.declared.chains.walk.Walk.{Walk};
-ghost use Rattle.vhost_protocol.specs.declared.chains.walk.Refusal.TheVariants.{Outside, PastEnd};
+ghost use Rattle.vhost_protocol.specs.declared.numbers.ChainRefusal.TheVariants.{Outside, PastEnd};
 ghost use Rattle.vhost_protocol.specs.declared.chains.walk.Step.TheVariants.{Last, More, Table, Refused};
 
 use crate::chains::laws::{steps_are_within, walks_are_chains, words_are_bytes};

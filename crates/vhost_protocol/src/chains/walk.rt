@@ -2,10 +2,12 @@
 
 ghost use Rattle.std.specs.Prelude.{◌≡◌, ◌≤◌, pos};
 ghost use Rattle.vhost_protocol.specs.Descriptors.{of_words};
-ghost use Rattle.vhost_protocol.specs.Walks.{begun, code_of, gone_on, number_of, piece_after, piece_at, piece_step as piece_step_in, step_at, table_step as table_step_in, unplaced as unplaced_in, walk_after};
+ghost use Rattle.vhost_protocol.specs.Numbers.{chain_refusal_number};
+ghost use Rattle.vhost_protocol.specs.Walks.{begun, code_of, gone_on, piece_after, piece_at, piece_step as piece_step_in, step_at, table_step as table_step_in, unplaced as unplaced_in, walk_after};
 
 use crate::chains::descriptor::Descriptor;
 use crate::chains::regions::{Place, Region, find};
+use crate::numbers::ChainRefusal;
 
 /// Most bytes of all descriptors of a chain.
 pub const MOST_BYTES: u64 = 1 << 32;
@@ -42,31 +44,6 @@ pub struct Walk {
     pub writable: bool,
 }
 
-/// Why descriptors are no chain, by the number that C is told.
-#[derive(Clone, Copy)]
-pub enum Refusal {
-    /// The number of a descriptor is none of its table.
-    OutsideTable = 3,
-    /// More descriptors than the table has: there is a loop.
-    LongerThanTable = 4,
-    /// No region has the first of a descriptor's bytes.
-    Outside = 5,
-    /// A region has the first of a descriptor's bytes, and no region all of them.
-    PastEnd = 6,
-    /// A piece of the request after one of the room.
-    ReadableAfterWritable = 7,
-    /// More bytes than [`MOST_BYTES`].
-    TooManyBytes = 8,
-    /// An indirect table in an indirect table.
-    TableInTable = 9,
-    /// An indirect table that another descriptor follows.
-    TableGoesOn = 10,
-    /// An indirect table without a descriptor, or that ends within one.
-    TableSize = 11,
-    /// An indirect table of too many descriptors.
-    TooManyEntries = 12,
-}
-
 /// What a descriptor comes to.
 pub enum Step {
     /// The last piece.
@@ -76,7 +53,7 @@ pub enum Step {
     /// A table that lies here, and the walk to go on with in it.
     Table(Place, Walk),
     /// There is no chain.
-    Refused(Refusal),
+    Refused(ChainRefusal),
 }
 
 /// The number of [`Step::Last`].
@@ -126,20 +103,20 @@ pub fn take_step(
 {
     let d = Descriptor::of_words(first, second);
     if d.is_table() {
-        return table_step(walk, first, second, regions, piece);
+        return table_step(walk, d, regions, piece);
     }
     let Some(place) = find(regions, d.addr, u64::from(d.len)) else {
-        return piece_step(walk, first, second, regions, piece);
+        return piece_step(walk, d, regions, piece);
     };
     if walk.rest < u64::from(d.len) || (walk.writable && !d.is_writable()) {
-        return piece_step(walk, first, second, regions, piece);
+        return piece_step(walk, d, regions, piece);
     }
     if !d.goes_on() {
         put_piece(piece, &d, place);
         return LAST;
     }
     if walk.left <= 1 || walk.entries <= u32::from(d.next) {
-        return piece_step(walk, first, second, regions, piece);
+        return piece_step(walk, d, regions, piece);
     }
     put_piece(piece, &d, place);
     go_on(walk, &d);
@@ -149,31 +126,22 @@ pub fn take_step(
 // The step at a descriptor of bytes: by its tests in their order, so that the first of them names why there is none.
 #[cold]
 #[inline(never)]
-fn piece_step(
-    walk: &mut Walk,
-    first: u64,
-    second: u64,
-    regions: &[Region],
-    piece: &mut Piece,
-) -> i32
-    ensures code { result ≡ code_of (piece_step_in walk.old (of_words first second) regions.now) }
-    ensures walk { walk.new ≡
-        walk_after (piece_step_in walk.old (of_words first second) regions.now) walk.old }
-    ensures piece { piece.new ≡
-        piece_after (piece_step_in walk.old (of_words first second) regions.now) piece.old }
+fn piece_step(walk: &mut Walk, d: Descriptor, regions: &[Region], piece: &mut Piece) -> i32
+    ensures code { result ≡ code_of (piece_step_in walk.old d regions.now) }
+    ensures walk { walk.new ≡ walk_after (piece_step_in walk.old d regions.now) walk.old }
+    ensures piece { piece.new ≡ piece_after (piece_step_in walk.old d regions.now) piece.old }
 {
-    let d = Descriptor::of_words(first, second);
     if walk.writable && !d.is_writable() {
-        return Refusal::ReadableAfterWritable as i32;
+        return ChainRefusal::ReadableAfterWritable as i32;
     }
     if walk.rest < u64::from(d.len) {
-        return Refusal::TooManyBytes as i32;
+        return ChainRefusal::TooManyBytes as i32;
     }
     if d.goes_on() && walk.left <= 1 {
-        return Refusal::LongerThanTable as i32;
+        return ChainRefusal::LongerThanTable as i32;
     }
     if d.goes_on() && walk.entries <= u32::from(d.next) {
-        return Refusal::OutsideTable as i32;
+        return ChainRefusal::OutsideTable as i32;
     }
     let Some(place) = find(regions, d.addr, u64::from(d.len)) else {
         return unplaced(regions, d.addr);
@@ -209,32 +177,23 @@ fn go_on(walk: &mut Walk, d: &Descriptor)
 
 // The step at a descriptor of a table.
 #[inline(never)]
-fn table_step(
-    walk: &mut Walk,
-    first: u64,
-    second: u64,
-    regions: &[Region],
-    piece: &mut Piece,
-) -> i32
-    ensures code { result ≡ code_of (table_step_in walk.old (of_words first second) regions.now) }
-    ensures walk { walk.new ≡
-        walk_after (table_step_in walk.old (of_words first second) regions.now) walk.old }
-    ensures piece { piece.new ≡
-        piece_after (table_step_in walk.old (of_words first second) regions.now) piece.old }
+fn table_step(walk: &mut Walk, d: Descriptor, regions: &[Region], piece: &mut Piece) -> i32
+    ensures code { result ≡ code_of (table_step_in walk.old d regions.now) }
+    ensures walk { walk.new ≡ walk_after (table_step_in walk.old d regions.now) walk.old }
+    ensures piece { piece.new ≡ piece_after (table_step_in walk.old d regions.now) piece.old }
 {
-    let d = Descriptor::of_words(first, second);
     if walk.indirect {
-        return Refusal::TableInTable as i32;
+        return ChainRefusal::TableInTable as i32;
     }
     if d.goes_on() {
-        return Refusal::TableGoesOn as i32;
+        return ChainRefusal::TableGoesOn as i32;
     }
     if d.len == 0 || d.len % 16 != 0 {
-        return Refusal::TableSize as i32;
+        return ChainRefusal::TableSize as i32;
     }
     let entries = d.len / 16;
     if walk.most < entries {
-        return Refusal::TooManyEntries as i32;
+        return ChainRefusal::TooManyEntries as i32;
     }
     let Some(place) = find(regions, d.addr, u64::from(d.len)) else {
         return unplaced(regions, d.addr);
@@ -251,11 +210,11 @@ fn table_step(
 #[cold]
 #[inline(never)]
 fn unplaced(regions: &[Region], addr: u64) -> i32
-    ensures { result ≡ pos (number_of (unplaced_in regions.now addr)) }
+    ensures { result ≡ pos (chain_refusal_number (unplaced_in regions.now addr)) }
 {
     if find(regions, addr, 1).is_some() {
-        Refusal::PastEnd as i32
+        ChainRefusal::PastEnd as i32
     } else {
-        Refusal::Outside as i32
+        ChainRefusal::Outside as i32
     }
 }

@@ -2,53 +2,6 @@
 
 use crate::messages::records::{Log, Region};
 
-/// Why a message is refused.
-#[derive(Clone, Copy, Debug)]
-pub enum Refusal {
-    /// It ends before its header or its payload does.
-    Cut = 1,
-    /// Its version is not 1.
-    WrongVersion = 2,
-    /// It is a reply.
-    IsReply = 3,
-    /// Its request is not served.
-    NotServed = 4,
-    /// Its payload has another size than its request's.
-    WrongSize = 5,
-    /// Descriptors are missing, or too many.
-    WrongDescriptors = 6,
-    /// A feature was not offered.
-    NotOffered = 7,
-    /// There is no queue of this number.
-    NoQueue = 8,
-    /// The size of a queue is no power of two, or above 32768.
-    WrongQueueSize = 9,
-    /// The index of a ring has more than 16 bits.
-    WrongBase = 10,
-    /// A queue is neither enabled nor disabled.
-    WrongEnable = 11,
-    /// What is written to a ring is to be logged, which was not offered, or its flags can't be.
-    Logs = 12,
-    /// A ring begins where its entries can't be.
-    Misaligned = 13,
-    /// A table of memory has another number of regions than it says, or more than 8.
-    WrongCount = 14,
-    /// A region is empty.
-    EmptyRegion = 15,
-    /// A region ends past the guest's addresses.
-    GuestRange = 16,
-    /// A region ends past the front end's addresses.
-    UserRange = 17,
-    /// A region ends past the offsets of a file.
-    FileRange = 18,
-    /// Two regions have an address of the guest in common.
-    Overlap = 19,
-    /// A log is empty, or ends past the offsets of a file.
-    WrongLog = 20,
-    /// A state goes neither way, or not while the queues are stopped.
-    WrongTransfer = 21,
-}
-
 /// What was offered, and how many queues there are.
 #[repr(C)]
 #[derive(Clone, Copy, Debug)]

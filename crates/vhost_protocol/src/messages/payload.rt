@@ -1,17 +1,16 @@
 //! Payloads of messages.
 
 ghost use Rattle.std.specs.Prelude.{◌≡◌, ◌≤◌, ◌<◌, length, true, IfOk};
-ghost use Rattle.vhost_protocol.specs.Messages.{are_aligned, can_be_logged, event_of, log_of, number_fault, only_with as only_of, payload_of, rings_of, state_of, transfer_of, wanted as wanted_of};
-ghost use Rattle.vhost_protocol.specs.Records.{record_at, state as state_table, address as address_table, log as log_table, transfer as transfer_table};
+ghost use Rattle.vhost_protocol.specs.Messages.{are_aligned, can_be_logged, event_of, if_offered as if_offered_of, log_of, number_fault, payload_of, rings_of, state_of, transfer_of, wanted as wanted_of};
+ghost use Rattle.vhost_protocol.specs.Records.{field, log_in};
 ghost use Rattle.vhost_protocol.specs.Requests.{has_size};
 ghost use Rattle.vhost_protocol.specs.Tables.{HasMemory, alone as alone_of};
 
-use crate::messages::message::{Message, Offer, Refusal, Rings};
-use crate::messages::records::{Address, Log, State, Transfer};
-use crate::messages::request::Request;
+use crate::messages::message::{Message, Offer, Rings};
+use crate::messages::records::Log;
 use crate::messages::table::table;
-use vfs_wire::bytes::u64_at;
-use vfs_wire::parts::part_at;
+use crate::numbers::{Refusal, Request};
+use vfs_wire::bytes::{u32_at, u64_at};
 
 /// The greatest offset of a file.
 const LAST_OFFSET: u64 = i64::MAX as u64;
@@ -36,20 +35,32 @@ fn alone(request: Request) -> Message
     }
 }
 
+/// A message of no queue, if all of these features were offered.
+#[tactic(auto, unfolding(crate::specs::Messages::if_offered))]
+fn if_offered(message: Message, features: u64, offered: u64) -> Result<Message, Refusal>
+    requires memory { HasMemory message }
+    requires queue { message.queue ≡ 0 }
+    ensures value { result ≡ if_offered_of features offered message }
+    ensures memory { IfOk result HasMemory }
+    ensures queue { IfOk result (λ m. m.queue ≡ 0) }
+{
+    if offered & features != features {
+        return Err(Refusal::NotOffered);
+    }
+    Ok(message)
+}
+
 /// Features, all of which were offered.
-#[tactic(auto, unfolding(crate::specs::Messages::wanted))]
 fn wanted(request: Request, number: u64, offered: u64) -> Result<Message, Refusal>
     ensures value { result ≡ wanted_of request number offered }
     ensures memory { IfOk result HasMemory }
     ensures queue { IfOk result (λ m. m.queue ≡ 0) }
 {
-    if number & offered != number {
-        return Err(Refusal::NotOffered);
-    }
-    Ok(Message {
+    let message = Message {
         number,
         ..alone(request)
-    })
+    };
+    if_offered(message, number, offered)
 }
 
 /// Why a number of a queue can't be.
@@ -87,20 +98,21 @@ fn fault_of_number(request: Request, number: u32) -> Option<Refusal>
 #[tactic(auto, unfolding(crate::specs::Messages::state_of))]
 fn state(request: Request, body: &[u8], queues: u64) -> Result<Message, Refusal>
     requires { 8 ≤ length body.now }
-    ensures value { result ≡ state_of request (record_at state_table 0 body.now) queues }
+    ensures value { result ≡ state_of request body.now queues }
     ensures memory { IfOk result HasMemory }
     ensures queue { IfOk result (λ m. m.queue < queues) }
 {
-    let state: State = part_at(body, 0);
-    if u64::from(state.queue) >= queues {
+    let queue = u32_at(body, 0);
+    let number = u32_at(body, 4);
+    if u64::from(queue) >= queues {
         return Err(Refusal::NoQueue);
     }
-    if let Some(refusal) = fault_of_number(request, state.number) {
+    if let Some(refusal) = fault_of_number(request, number) {
         return Err(refusal);
     }
     Ok(Message {
-        queue: state.queue,
-        number: u64::from(state.number),
+        queue,
+        number: u64::from(number),
         ..alone(request)
     })
 }
@@ -125,10 +137,10 @@ fn event(request: Request, number: u64, queues: u64) -> Result<Message, Refusal>
 
 /// Whether rings begin where their entries can be.
 #[tactic(auto, unfolding(crate::specs::Messages::are_aligned))]
-fn is_aligned(address: &Address) -> bool
-    ensures { result ≡ are_aligned address.now }
+fn is_aligned(rings: &Rings) -> bool
+    ensures { result ≡ are_aligned rings.now }
 {
-    address.descriptors % 16 == 0 && address.available % 2 == 0 && address.used % 4 == 0
+    rings.descriptors % 16 == 0 && rings.available % 2 == 0 && rings.used % 4 == 0
 }
 
 /// Whether these flags of a ring can be: one alone, if a log was offered.
@@ -143,29 +155,31 @@ fn may_log(flags: u32, features: u64) -> bool
 #[tactic(auto, unfolding(crate::specs::Messages::rings_of))]
 fn rings(body: &[u8], features: u64, queues: u64) -> Result<Message, Refusal>
     requires { 40 ≤ length body.now }
-    ensures value { result ≡ rings_of (record_at address_table 0 body.now) features queues }
+    ensures value { result ≡ rings_of body.now features queues }
     ensures memory { IfOk result HasMemory }
     ensures queue { IfOk result (λ m. m.queue < queues) }
 {
-    let address: Address = part_at(body, 0);
-    if u64::from(address.queue) >= queues {
+    let rings = Rings {
+        descriptors: u64_at(body, 8),
+        used: u64_at(body, 16),
+        available: u64_at(body, 24),
+        log: u64_at(body, 32),
+    };
+    let index = u32_at(body, 0);
+    let flags = u32_at(body, 4);
+    if u64::from(index) >= queues {
         return Err(Refusal::NoQueue);
     }
-    if !may_log(address.flags, features) {
+    if !may_log(flags, features) {
         return Err(Refusal::Logs);
     }
-    if !is_aligned(&address) {
+    if !is_aligned(&rings) {
         return Err(Refusal::Misaligned);
     }
     Ok(Message {
-        queue: address.queue,
-        number: u64::from(address.flags),
-        rings: Rings {
-            descriptors: address.descriptors,
-            used: address.used,
-            available: address.available,
-            log: address.log,
-        },
+        queue: index,
+        number: u64::from(flags),
+        rings,
         ..alone(Request::SetVringAddr)
     })
 }
@@ -174,11 +188,14 @@ fn rings(body: &[u8], features: u64, queues: u64) -> Result<Message, Refusal>
 #[tactic(auto, unfolding(crate::specs::Messages::log_of))]
 fn log(body: &[u8], protocol: u64) -> Result<Message, Refusal>
     requires { 16 ≤ length body.now }
-    ensures value { result ≡ log_of (record_at log_table 0 body.now) protocol }
+    ensures value { result ≡ log_of (log_in body.now) protocol }
     ensures memory { IfOk result HasMemory }
     ensures queue { IfOk result (λ m. m.queue ≡ 0) }
 {
-    let log: Log = part_at(body, 0);
+    let log = Log {
+        size: u64_at(body, 0),
+        offset: u64_at(body, 8),
+    };
     if protocol & LOG_SHMFD != LOG_SHMFD {
         return Err(Refusal::NotOffered);
     }
@@ -192,45 +209,25 @@ fn log(body: &[u8], protocol: u64) -> Result<Message, Refusal>
     })
 }
 
-/// A message with that many descriptors and nothing else, if this feature of the protocol was offered.
-#[tactic(auto, unfolding(crate::specs::Messages::only_with))]
-fn only_with(
-    request: Request,
-    descriptors: u32,
-    feature: u64,
-    protocol: u64,
-) -> Result<Message, Refusal>
-    ensures value { result ≡ only_of request descriptors feature protocol }
-    ensures memory { IfOk result HasMemory }
-    ensures queue { IfOk result (λ m. m.queue ≡ 0) }
-{
-    if protocol & feature != feature {
-        return Err(Refusal::NotOffered);
-    }
-    Ok(Message {
-        descriptors,
-        ..alone(request)
-    })
-}
-
 /// Which way a state goes, if that was offered.
 #[tactic(auto, unfolding(crate::specs::Messages::transfer_of))]
 fn transfer(body: &[u8], protocol: u64) -> Result<Message, Refusal>
     requires { 8 ≤ length body.now }
-    ensures value { result ≡ transfer_of (record_at transfer_table 0 body.now) protocol }
+    ensures value { result ≡ transfer_of (field 4 0 body.now) (field 4 4 body.now) protocol }
     ensures memory { IfOk result HasMemory }
     ensures queue { IfOk result (λ m. m.queue ≡ 0) }
 {
-    let transfer: Transfer = part_at(body, 0);
+    let direction = u32_at(body, 0);
+    let phase = u32_at(body, 4);
     if protocol & DEVICE_STATE != DEVICE_STATE {
         return Err(Refusal::NotOffered);
     }
-    if transfer.direction >= 2 || transfer.phase != 0 {
+    if direction >= 2 || phase != 0 {
         return Err(Refusal::WrongTransfer);
     }
     Ok(Message {
         descriptors: 1,
-        number: u64::from(transfer.direction),
+        number: u64::from(direction),
         ..alone(Request::SetDeviceStateFd)
     })
 }
@@ -256,9 +253,15 @@ pub fn payload(request: Request, body: &[u8], offer: &Offer) -> Result<Message, 
             event(request, u64_at(body, 0), offer.queues)
         }
         Request::SetLogBase => log(body, offer.protocol),
-        Request::SetLogFd => only_with(request, 1, LOG_SHMFD, offer.protocol),
+        Request::SetLogFd => {
+            let message = Message {
+                descriptors: 1,
+                ..alone(request)
+            };
+            if_offered(message, LOG_SHMFD, offer.protocol)
+        }
         Request::SetDeviceStateFd => transfer(body, offer.protocol),
-        Request::CheckDeviceState => only_with(request, 0, DEVICE_STATE, offer.protocol),
+        Request::CheckDeviceState => if_offered(alone(request), DEVICE_STATE, offer.protocol),
         Request::GetFeatures
         | Request::SetOwner
         | Request::ResetOwner

@@ -5,11 +5,11 @@ ghost use Rattle.vhost_protocol.specs.Messages.{asked_by, message_of, size_in};
 ghost use Rattle.vhost_protocol.specs.Requests.{has_size as has_its_size};
 ghost use Rattle.vhost_protocol.specs.Tables.{HasMemory};
 
-use crate::messages::message::{Message, Offer, Refusal};
+use crate::messages::message::{Message, Offer};
 use crate::messages::payload::payload;
 use crate::messages::records::Head;
-use crate::messages::request::{Request, has_size, request_by};
-use vfs_wire::ByteValued;
+use crate::messages::request::{has_size, request_by};
+use crate::numbers::{Refusal, Request};
 
 const VERSION: u32 = 1;
 
@@ -52,7 +52,7 @@ pub fn payload_size(head: &[u8]) -> Result<u32, Refusal>
     if head.len() != Head::SIZE {
         return Err(Refusal::Cut);
     }
-    let head = Head::take(head);
+    let head = Head::of_bytes(head);
     match asked(&head) {
         Ok(_) => Ok(head.size),
         Err(refusal) => Err(refusal),
@@ -75,7 +75,7 @@ pub fn read_message(
     if head.len() != Head::SIZE {
         return Err(Refusal::Cut);
     }
-    let head = Head::take(head);
+    let head = Head::of_bytes(head);
     let request = match asked(&head) {
         Ok(request) => request,
         Err(refusal) => return Err(refusal),

@@ -1,35 +1,13 @@
 //! What a front end asks for.
 
 ghost use Rattle.std.specs.Prelude.{◌≡◌, ◌≤◌, true};
-ghost use Rattle.vhost_protocol.specs.Requests.{has_size as has_its_size, request_of};
+ghost use Rattle.vhost_protocol.specs.Numbers.{request_of};
+ghost use Rattle.vhost_protocol.specs.Requests.{has_size as has_its_size};
 
-/// The requests that are served, by the protocol's names and numbers.
-#[derive(Clone, Copy, Debug)]
-pub enum Request {
-    GetFeatures = 1,
-    SetFeatures = 2,
-    SetOwner = 3,
-    ResetOwner = 4,
-    SetMemTable = 5,
-    SetLogBase = 6,
-    SetLogFd = 7,
-    SetVringNum = 8,
-    SetVringAddr = 9,
-    SetVringBase = 10,
-    GetVringBase = 11,
-    SetVringKick = 12,
-    SetVringCall = 13,
-    SetVringErr = 14,
-    GetProtocolFeatures = 15,
-    SetProtocolFeatures = 16,
-    GetQueueNum = 17,
-    SetVringEnable = 18,
-    SetDeviceStateFd = 42,
-    CheckDeviceState = 43,
-}
+use crate::numbers::Request;
 
 /// The request of a number.
-#[tactic(auto, unfolding(crate::specs::Requests::request_of))]
+#[tactic(auto, unfolding(crate::specs::Numbers::request_of))]
 pub fn request_by(number: u32) -> Option<Request>
     ensures { result ≡ request_of number }
 {

@@ -4,11 +4,10 @@ ghost use Rattle.std.specs.Prelude.{◌≡◌, ◌≤◌, ◌<◌, length, false
 ghost use Rattle.std.specs.List.{All, AllPairs};
 ghost use Rattle.vhost_protocol.specs.Tables.{Apart, HasMemory, IsRegion, fault_among, fault_of, meet as meet_of, meets_any as meets_one, overlap, region_in, regions_in, table_of};
 
-use crate::messages::message::{Message, Refusal, Table};
+use crate::messages::message::{Message, Table};
 use crate::messages::records::Region;
-use crate::messages::request::Request;
-use vfs_wire::bytes::u32_at;
-use vfs_wire::parts::part_at;
+use crate::numbers::{Refusal, Request};
+use vfs_wire::bytes::{u32_at, u64_at};
 
 /// The greatest offset of a file.
 const LAST_OFFSET: u64 = i64::MAX as u64;
@@ -88,7 +87,13 @@ fn region_at(body: &[u8], i: usize) -> Region
     if body.len() < 8 + 32 * (i + 1) {
         return Region::NONE;
     }
-    part_at(body, 8 + 32 * i)
+    let at = 8 + 32 * i;
+    Region {
+        guest: u64_at(body, at),
+        size: u64_at(body, at + 8),
+        user: u64_at(body, at + 16),
+        offset: u64_at(body, at + 24),
+    }
 }
 
 /// The eight regions of a table's bytes.

@@ -6,15 +6,16 @@ ghost use Rattle.vhost_protocol.specs.Places.{Has};
 ghost use Rattle.vhost_protocol.specs.Samples.{head_of, num_128};
 ghost use Rattle.vhost_protocol.specs.Tables.{Apart, alone, shared};
 
-use crate::messages::message::{Message, Offer, Refusal, Table};
+use crate::messages::message::{Message, Offer, Table};
 use crate::messages::payload::payload;
 use crate::messages::place::{Place, View, place_of};
 use crate::messages::read::{payload_size, read_message};
 use crate::messages::records::{Log, Region};
-use crate::messages::request::{Request, request_by};
+use crate::messages::request::request_by;
+use crate::numbers::{Refusal, Request};
 
 /// The size of a queue's message is that of its header.
-#[tactic(auto, unfolding(vfs_wire::specs::Fields::number, crate::specs::Messages::size_in, crate::specs::Messages::asked_by, crate::specs::Requests::request_of, crate::specs::Requests::has_size))]
+#[tactic(auto, unfolding(vfs_wire::specs::Fields::number, crate::specs::Messages::size_in, crate::specs::Messages::asked_by, crate::specs::Numbers::request_of, crate::specs::Requests::has_size))]
 fn size_of_num(head: &[u8]) -> Result<u32, Refusal>
     requires { head.now ≡ head_of 8 8 }
     ensures { result ≡ Ok 8 }
@@ -23,7 +24,7 @@ fn size_of_num(head: &[u8]) -> Result<u32, Refusal>
 }
 
 /// Of requests by number, 5 shares memory, 1 asks for features, and 19 is not served.
-#[tactic(auto, unfolding(crate::specs::Requests::request_of))]
+#[tactic(auto, unfolding(crate::specs::Numbers::request_of))]
 fn requests_by_number() -> [Option<Request>; 3]
     ensures { result ≡ Some Request.SetMemTable ∷ Some Request.GetFeatures ∷ None ∷ [] }
 {
@@ -40,7 +41,7 @@ fn features_wanted(body: &[u8], offer: &Offer) -> Result<Message, Refusal>
 }
 
 /// A queue 1 of 128 descriptors.
-#[tactic(auto, unfolding(vfs_wire::specs::Fields::number, crate::specs::Messages::message_of, crate::specs::Messages::asked_by, crate::specs::Requests::request_of, crate::specs::Requests::has_size, crate::specs::Messages::payload_of, crate::specs::Messages::state_of, crate::specs::Messages::number_fault))]
+#[tactic(auto, unfolding(vfs_wire::specs::Fields::number, crate::specs::Messages::message_of, crate::specs::Messages::asked_by, crate::specs::Numbers::request_of, crate::specs::Requests::has_size, crate::specs::Messages::payload_of, crate::specs::Messages::state_of, crate::specs::Messages::number_fault))]
 fn queue_of_128(head: &[u8], body: &[u8], offer: &Offer) -> Result<Message, Refusal>
     requires head { head.now ≡ head_of 8 8 }
     requires body { body.now ≡ num_128 }

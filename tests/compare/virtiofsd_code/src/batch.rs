@@ -8,7 +8,6 @@ use crate::filesystem::FileSystem;
 use crate::memfs::MemFs;
 use crate::nullfs::NullFs;
 use crate::server::Server;
-use crate::Error;
 use std::ops::Range;
 use vhost_user_backend::bitmap::BitmapMmapRegion;
 use virtio_queue::{Descriptor, DescriptorChain};
@@ -78,20 +77,6 @@ impl Batch {
         }
         let measured = all.split_off(setups);
         Some(Batch { fs, setup: all, measured, room })
-    }
-}
-
-fn code(e: &Error) -> u32 {
-    match e {
-        Error::DecodeMessage(_) => 1,
-        Error::EncodeMessage(_) => 2,
-        Error::FlushMessage(_) => 3,
-        Error::MissingParameter => 4,
-        Error::InvalidCString(_) => 5,
-        Error::InvalidCString2(_) => 6,
-        Error::InvalidHeaderLength => 7,
-        Error::InvalidXattrSize(_) => 8,
-        Error::MissingExtension => 9,
     }
 }
 
@@ -171,6 +156,6 @@ fn serve<F: FileSystem + Sync>(server: &Server<F>, mem: &Memory, chain: &Chain) 
     let w = Writer::new(mem, chain.clone()).unwrap();
     match server.handle_message(r, w, None::<&mut ()>) {
         Ok(n) => (0, n as u32),
-        Err(e) => (code(&e), 0),
+        Err(e) => (e.name_and_code().1, 0),
     }
 }

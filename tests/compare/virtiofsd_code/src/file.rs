@@ -115,3 +115,38 @@ impl<B: BitmapSlice> FileReadWriteAtVolatile<B> for &File {
         }
     }
 }
+
+/// READ and WRITE of a file system whose nodes have such files.
+macro_rules! transfers {
+    ($this:ident, $inode:ident => $file:expr) => {
+        fn read<W: ZeroCopyWriter>(
+            &$this,
+            _ctx: Context,
+            $inode: u64,
+            _handle: u64,
+            mut w: W,
+            size: u32,
+            offset: u64,
+            _owner: Option<u64>,
+            _flags: u32,
+        ) -> io::Result<usize> {
+            w.read_from_file_at($file, size as usize, offset)
+        }
+        fn write<R: ZeroCopyReader>(
+            &$this,
+            _ctx: Context,
+            $inode: u64,
+            _handle: u64,
+            mut r: R,
+            size: u32,
+            offset: u64,
+            _owner: Option<u64>,
+            _delayed: bool,
+            _kill_priv: bool,
+            _flags: u32,
+        ) -> io::Result<usize> {
+            r.write_to_file_at($file, size as usize, offset, None)
+        }
+    };
+}
+pub(crate) use transfers;

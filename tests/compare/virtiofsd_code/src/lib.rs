@@ -73,17 +73,26 @@ pub mod file_traits {
     }
 }
 
-#[derive(Debug)]
-pub enum Error {
-    DecodeMessage(std::io::Error),
-    EncodeMessage(std::io::Error),
-    FlushMessage(std::io::Error),
-    MissingParameter,
-    InvalidCString(std::ffi::FromBytesWithNulError),
-    InvalidCString2(std::ffi::FromVecWithNulError),
-    InvalidHeaderLength,
-    InvalidXattrSize((u32, usize)),
-    MissingExtension,
+macro_rules! errors { ($($Name:ident$(($T:ty))? = $code:literal,)*) => {
+    #[derive(Debug)]
+    pub enum Error { $($Name$(($T))?,)* }
+    impl Error {
+        /// The name and the number of an error, without what it carries.
+        pub fn name_and_code(&self) -> (&'static str, u32) {
+            match self { $(Self::$Name { .. } => (stringify!($Name), $code),)* }
+        }
+    }
+} }
+errors! {
+    DecodeMessage(std::io::Error) = 1,
+    EncodeMessage(std::io::Error) = 2,
+    FlushMessage(std::io::Error) = 3,
+    MissingParameter = 4,
+    InvalidCString(std::ffi::FromBytesWithNulError) = 5,
+    InvalidCString2(std::ffi::FromVecWithNulError) = 6,
+    InvalidHeaderLength = 7,
+    InvalidXattrSize((u32, usize)) = 8,
+    MissingExtension = 9,
 }
 pub type Result<T> = std::result::Result<T, Error>;
 

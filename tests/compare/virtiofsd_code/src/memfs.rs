@@ -1,16 +1,13 @@
 //! The files in memory of `fs_small`, written again for virtiofsd's trait: a root, node 1, with at most
 //! a thousand files of at most 65,536 bytes; at first the file `a`, node 2, which says `hello`.
-use crate::file::File;
+use crate::file::{transfers, File};
 use crate::filesystem::*;
 use crate::fuse::Attr;
+use crate::seeds::{kept_entry, os};
 use std::ffi::{CStr, CString};
 use std::io;
 use std::sync::{Arc, Mutex, MutexGuard};
 use std::time::Duration;
-
-fn os<T>(n: i32) -> io::Result<T> {
-    Err(io::Error::from_raw_os_error(n))
-}
 
 /// The bytes of a file, shared with the `File` that a transfer is lent, which keeps the limit.
 #[derive(Default)]
@@ -34,9 +31,6 @@ impl Default for MemFs {
     }
 }
 
-fn second() -> Duration {
-    Duration::from_secs(1)
-}
 fn attr(n: Option<&Node>) -> Attr {
     let (ino, mode, nlink, size) = match n {
         None => (1, 0o40755, 2, 0),
@@ -45,14 +39,7 @@ fn attr(n: Option<&Node>) -> Attr {
     Attr { ino, mode, nlink, size, blksize: 4096, ..Default::default() }
 }
 fn entry(n: &Node) -> Entry {
-    let inode = n.node;
-    Entry {
-        inode,
-        generation: 0,
-        attr: attr(Some(n)),
-        attr_timeout: second(),
-        entry_timeout: second(),
-    }
+    kept_entry(0, attr(Some(n)))
 }
 
 impl MemFs {
@@ -101,7 +88,7 @@ impl FileSystem for MemFs {
         if inode != 1 && f.is_none() {
             return os(libc::ENOENT);
         }
-        Ok((attr(f), second()))
+        Ok((attr(f), Duration::from_secs(1)))
     }
     fn unlink(&self, _ctx: Context, parent: u64, name: &CStr) -> io::Result<()> {
         let mut s = self.lock();
@@ -140,34 +127,7 @@ impl FileSystem for MemFs {
         s.files.push(f);
         Ok((e, None, OpenOptions::empty()))
     }
-    fn read<W: ZeroCopyWriter>(
-        &self,
-        _ctx: Context,
-        inode: u64,
-        _handle: u64,
-        mut w: W,
-        size: u32,
-        offset: u64,
-        _owner: Option<u64>,
-        _flags: u32,
-    ) -> io::Result<usize> {
-        w.read_from_file_at(&self.file(inode)?, size as usize, offset)
-    }
-    fn write<R: ZeroCopyReader>(
-        &self,
-        _ctx: Context,
-        inode: u64,
-        _handle: u64,
-        mut r: R,
-        size: u32,
-        offset: u64,
-        _owner: Option<u64>,
-        _delayed: bool,
-        _kill_priv: bool,
-        _flags: u32,
-    ) -> io::Result<usize> {
-        r.write_to_file_at(&self.file(inode)?, size as usize, offset, None)
-    }
+    transfers! { self, inode => &self.file(inode)? }
     fn readdir(
         &self,
         _ctx: Context,

@@ -1,6 +1,7 @@
 //! Notes of calls, with their arguments and what they were answered, as `test_sessions` has them: two
 //! spaces before each line are put by who prints it.
 use crate::filesystem::*;
+use crate::fuse::SetattrIn;
 use crate::request::hex;
 use std::ffi::CStr;
 use std::io;
@@ -30,19 +31,41 @@ impl Notes {
 pub fn c(x: Context) -> String {
     format!("ctx={},{},{}", x.uid.into_inner(), x.gid.into_inner(), x.pid as u32)
 }
-pub fn o(x: Option<u64>) -> String {
+/// An argument of a call, as notes have it.
+pub trait Argument {
+    fn noted(&self, name: &str) -> String;
+}
+macro_rules! arguments { ($($T:ty: $it:ident => $shown:expr;)*) => { $(
+    impl Argument for $T {
+        fn noted(&self, name: &str) -> String {
+            let $it = self;
+            format!("{name}={}", $shown)
+        }
+    }
+)* } }
+arguments! {
+    u32: n => n;
+    u64: n => n;
+    bool: is_so => is_so;
+    Option<u64>: n => o(*n);
+    &CStr: text => hex(text.to_bytes());
+    &[u8]: bytes => hex(bytes);
+    SetattrIn: attr => hex(vm_memory::ByteValued::as_slice(attr));
+    SetattrValid: flags => flags.bits();
+    SetxattrFlags: flags => flags.bits();
+}
+/// (they have two names of their own)
+impl Argument for Extensions {
+    fn noted(&self, _name: &str) -> String {
+        let secctx = self.secctx.as_ref();
+        let secctx =
+            secctx.map_or("none".into(), |it| hex(it.name.to_bytes()) + ":" + &hex(&it.secctx));
+        let group = self.sup_gid.map_or("none".into(), |it| it.into_inner().to_string());
+        format!("secctx={secctx} group={group}")
+    }
+}
+fn o(x: Option<u64>) -> String {
     x.map_or("none".into(), |n| n.to_string())
-}
-pub fn s(x: &CStr) -> String {
-    hex(x.to_bytes())
-}
-pub fn e(x: &Extensions) -> String {
-    let secctx = match &x.secctx {
-        None => "none".into(),
-        Some(v) => format!("{}:{}", s(&v.name), hex(&v.secctx)),
-    };
-    let group = x.sup_gid.map_or("none".into(), |g| g.into_inner().to_string());
-    format!("secctx={secctx} group={group}")
 }
 /// A number below 1 is no number of an error, and is noted as none.
 fn fault(x: &io::Error) -> String {

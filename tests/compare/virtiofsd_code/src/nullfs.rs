@@ -1,8 +1,9 @@
 //! A file system that answers at once, as `null` of `test_speed` does, so that what is measured over it is
 //! the server. It has no state.
-use crate::file::File;
+use crate::file::{transfers, File};
 use crate::filesystem::*;
 use crate::fuse::Attr;
+use crate::seeds::kept_entry;
 use std::ffi::CStr;
 use std::io;
 use std::time::Duration;
@@ -15,10 +16,6 @@ pub struct NullFs;
 
 fn attr(ino: u64, mode: u32, nlink: u32) -> Attr {
     Attr { ino, mode, nlink, blksize: 4096, ..Default::default() }
-}
-fn entry(generation: u64, attr: Attr) -> Entry {
-    let second = Duration::from_secs(1);
-    Entry { inode: attr.ino, generation, attr, attr_timeout: second, entry_timeout: second }
 }
 
 pub struct Same {
@@ -43,7 +40,7 @@ impl FileSystem for NullFs {
         Ok(FsOptions::SECURITY_CTX)
     }
     fn lookup(&self, _ctx: Context, _parent: u64, _name: &CStr) -> io::Result<Entry> {
-        Ok(entry(0, attr(2, 0o100644, 1)))
+        Ok(kept_entry(0, attr(2, 0o100644, 1)))
     }
     fn getattr(&self, _ctx: Context, inode: u64, _h: Option<u64>) -> io::Result<(Attr, Duration)> {
         Ok((attr(inode, 0o100644, 1), Duration::from_secs(1)))
@@ -59,7 +56,7 @@ impl FileSystem for NullFs {
         ext: Extensions,
     ) -> io::Result<Entry> {
         let received = ext.secctx.as_ref().map_or(0, |c| c.secctx.len() as u64);
-        Ok(entry(received, attr(3, 0o40755, 2)))
+        Ok(kept_entry(received, attr(3, 0o40755, 2)))
     }
     fn setxattr(
         &self,
@@ -72,34 +69,7 @@ impl FileSystem for NullFs {
     ) -> io::Result<()> {
         Ok(())
     }
-    fn read<W: ZeroCopyWriter>(
-        &self,
-        _ctx: Context,
-        _inode: u64,
-        _handle: u64,
-        mut w: W,
-        size: u32,
-        offset: u64,
-        _owner: Option<u64>,
-        _flags: u32,
-    ) -> io::Result<usize> {
-        w.read_from_file_at(&File::null(), size as usize, offset)
-    }
-    fn write<R: ZeroCopyReader>(
-        &self,
-        _ctx: Context,
-        _inode: u64,
-        _handle: u64,
-        mut r: R,
-        size: u32,
-        offset: u64,
-        _owner: Option<u64>,
-        _delayed: bool,
-        _kill_priv: bool,
-        _flags: u32,
-    ) -> io::Result<usize> {
-        r.write_to_file_at(&File::null(), size as usize, offset, None)
-    }
+    transfers! { self, inode => &File::null() }
     fn readdir(
         &self,
         _ctx: Context,

@@ -100,21 +100,6 @@ pub fn serve<F: FileSystem + Sync>(server: &Server<F>, line: &Line) -> Answer {
     Answer { outcome, room: rooms.flat_map(|d| memory.get(d.addr, d.len as usize)).collect() }
 }
 
-/// The name of an error, without what it carries.
-fn name(error: &Error) -> &'static str {
-    match error {
-        Error::DecodeMessage(_) => "DecodeMessage",
-        Error::EncodeMessage(_) => "EncodeMessage",
-        Error::FlushMessage(_) => "FlushMessage",
-        Error::MissingParameter => "MissingParameter",
-        Error::InvalidCString(_) => "InvalidCString",
-        Error::InvalidCString2(_) => "InvalidCString2",
-        Error::InvalidHeaderLength => "InvalidHeaderLength",
-        Error::InvalidXattrSize(_) => "InvalidXattrSize",
-        Error::MissingExtension => "MissingExtension",
-    }
-}
-
 impl Answer {
     /// The answer as the programs write it, without its newline.
     pub fn text(&self) -> String {
@@ -130,7 +115,7 @@ impl Answer {
             Outcome::Err(Error::InvalidXattrSize((said, found))) => {
                 format!("err InvalidXattrSize {said} {found}")
             }
-            Outcome::Err(error) => format!("err {}", name(error)),
+            Outcome::Err(error) => format!("err {}", error.name_and_code().0),
             Outcome::Panic => "panic".into(),
         }
     }
@@ -142,7 +127,7 @@ impl Answer {
             Outcome::Err(Error::InvalidXattrSize(sizes)) => {
                 format!("Err(InvalidXattrSize({sizes:?}))")
             }
-            Outcome::Err(error) => format!("Err({})", name(error)),
+            Outcome::Err(error) => format!("Err({})", error.name_and_code().0),
             Outcome::Panic => "panic".into(),
         };
         format!("{outcome}\nroom {}", hex(&self.room))

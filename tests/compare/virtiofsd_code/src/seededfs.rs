@@ -3,11 +3,9 @@
 use crate::file::{File, Positioned};
 use crate::filesystem::*;
 use crate::fuse::{Attr, SetattrIn};
-use crate::noted::{c, e, h, nothing, o, s, Notes};
+use crate::noted::{c, h, nothing, Argument, Notes};
 use crate::request::hex;
-use crate::seeds::{
-    attr, bare_entry, bytes, entry, fault_of, handle, none, opts, os, time, wanted,
-};
+use crate::seeds::{self, bare_entry, bytes, fault_of, none, opts, os, time, wanted};
 use crate::told::{Answers, Item, Told};
 use std::ffi::{CStr, CString};
 use std::io;
@@ -39,19 +37,19 @@ impl Source {
     fn entry(self, name: &CStr, ctx: Context) -> Entry {
         match self {
             Source::Told(inode) => bare_entry(inode),
-            Source::Seed(q) => entry(q, name, ctx),
+            Source::Seed(q) => seeds::entry(q, name, ctx),
         }
     }
     fn opening(self) -> (Option<u64>, OpenOptions) {
         match self {
             Source::Told(handle) => (Some(handle), OpenOptions::empty()),
-            Source::Seed(q) => (handle(q), opts(q)),
+            Source::Seed(q) => (seeds::handle(q), opts(q)),
         }
     }
     fn creation(self, name: &CStr, ctx: Context) -> (Entry, Option<u64>, OpenOptions) {
         match self {
             Source::Told(inode) => (bare_entry(inode), None, OpenOptions::empty()),
-            Source::Seed(q) => (entry(q, name, ctx), handle(q), opts(q)),
+            Source::Seed(q) => (seeds::entry(q, name, ctx), seeds::handle(q), opts(q)),
         }
     }
 }
@@ -106,8 +104,11 @@ impl SeededFs {
     fn q(&self, ctx: Context) -> io::Result<u64> {
         Ok(self.source_by(ctx)?.seed())
     }
-    fn plain(&self) -> io::Result<u64> {
-        Ok(self.source()?.seed())
+    fn done(&self, ctx: Context) -> io::Result<()> {
+        self.source_by(ctx).map(drop)
+    }
+    fn entry(&self, name: &CStr, ctx: Context) -> io::Result<Entry> {
+        Ok(self.source_by(ctx)?.entry(name, ctx))
     }
     fn file(&self, q: u64) -> File {
         File::new(ScriptFile { q, calls: 0, notes: self.notes.clone() })
@@ -237,6 +238,37 @@ impl SeededDir {
     }
 }
 
+/// Methods of the trait. Each notes its name, its caller and its arguments by the names that these have here,
+/// then gives the answer in braces, and notes that as the function after it has it.
+macro_rules! calls {
+    ($this:ident, $ctx:ident: $(
+        $name:ident($($arg:ident: $T:ty),*) -> $R:ty { $($answer:tt)* } $told:expr;
+    )*) => { $(
+        fn $name(&$this, $ctx: Context, $($arg: $T),*) -> io::Result<$R> {
+            let noted = [stringify!($name).into(), c($ctx), $($arg.noted(stringify!($arg))),*];
+            $this.noted(noted.join(" "), || { $($answer)* }, $told)
+        }
+    )* };
+}
+/// Methods that are told nothing, not even who calls.
+macro_rules! bare_calls {
+    ($this:ident: $($name:ident)*) => { $(
+        fn $name(&$this) -> io::Result<()> {
+            $this.noted(stringify!($name), || $this.source().map(drop), nothing)
+        }
+    )* };
+}
+
+fn node(entry: &Entry) -> String {
+    format!(" node={}", entry.inode)
+}
+fn opened(answer: &(Option<u64>, OpenOptions)) -> String {
+    format!(" {}", h(answer.0, answer.1))
+}
+fn count(answer: &usize) -> String {
+    format!(" count={answer}")
+}
+
 impl FileSystem for SeededFs {
     type Inode = u64;
     type Handle = u64;
@@ -258,22 +290,6 @@ impl FileSystem for SeededFs {
     fn destroy(&self) {
         self.notes.add("call destroy".into());
     }
-    fn lookup(&self, ctx: Context, parent: u64, name: &CStr) -> io::Result<Entry> {
-        self.noted(
-            format!("lookup {} parent={parent} name={}", c(ctx), s(name)),
-            || {
-                self.keep(ctx);
-                let source = match (self.answers.take(), name.to_bytes().first()) {
-                    (Some(told), _) => self.told(told),
-                    (None, Some(b'x')) => os(libc::ENOENT),
-                    (None, Some(b'y')) => none(),
-                    (None, _) => self.by_word(),
-                };
-                Ok(source?.entry(name, ctx))
-            },
-            |a| format!(" node={}", a.inode),
-        )
-    }
     fn forget(&self, ctx: Context, inode: u64, count: u64) {
         self.notes.add(format!("call forget {} inode={inode} count={count}", c(ctx)));
         self.keep(ctx);
@@ -283,231 +299,152 @@ impl FileSystem for SeededFs {
         self.notes.add(format!("call batch_forget {} requests={}", c(ctx), list.join(",")));
         self.keep(ctx);
     }
-    fn getattr(
-        &self,
-        ctx: Context,
-        inode: u64,
-        handle: Option<u64>,
-    ) -> io::Result<(Attr, Duration)> {
-        self.noted(
-            format!("getattr {} inode={inode} handle={}", c(ctx), o(handle)),
-            || {
-                let t = self.q(ctx)? + inode % 1000 + handle.unwrap_or(0) % 7;
-                Ok((attr(t, inode, ctx), time(t)))
-            },
-            nothing,
-        )
-    }
-    fn setattr(
-        &self,
-        ctx: Context,
-        inode: u64,
-        sa: SetattrIn,
-        handle: Option<u64>,
-        valid: SetattrValid,
-    ) -> io::Result<(Attr, Duration)> {
-        let bytes = hex(vm_memory::ByteValued::as_slice(&sa));
-        self.noted(
-            format!(
-                "setattr {} inode={inode} attr={bytes} handle={} valid={}",
-                c(ctx),
-                o(handle),
-                valid.bits()
-            ),
-            || {
-                let q = self.q(ctx)?;
-                let a = Attr {
-                    size: sa.size,
-                    atime: sa.atime,
-                    mtime: sa.mtime,
-                    ctime: sa.ctime,
-                    atimensec: sa.atimensec,
-                    mtimensec: sa.mtimensec,
-                    ctimensec: sa.ctimensec,
-                    mode: sa.mode,
-                    uid: sa.uid,
-                    gid: sa.gid,
-                    nlink: if handle.is_some() { 77 } else { 1 },
-                    flags: valid.bits(),
-                    ..attr(q, inode, ctx)
-                };
-                Ok((a, time(q)))
-            },
-            nothing,
-        )
-    }
-    fn readlink(&self, ctx: Context, inode: u64) -> io::Result<Vec<u8>> {
-        self.noted(
-            format!("readlink {} inode={inode}", c(ctx)),
-            || {
-                let q = self.q(ctx)?;
-                Ok(bytes(q, q % 300))
-            },
-            nothing,
-        )
-    }
-    fn symlink(
-        &self,
-        ctx: Context,
-        linkname: &CStr,
-        parent: u64,
-        name: &CStr,
-        x: Extensions,
-    ) -> io::Result<Entry> {
-        self.noted(
-            format!(
-                "symlink {} linkname={} parent={parent} name={} {}",
-                c(ctx),
-                s(linkname),
-                s(name),
-                e(&x)
-            ),
-            || Ok(self.source_by(ctx)?.entry(name, ctx)),
-            |a| format!(" node={}", a.inode),
-        )
-    }
-    fn mknod(
-        &self,
-        ctx: Context,
-        inode: u64,
-        name: &CStr,
-        mode: u32,
-        rdev: u32,
-        umask: u32,
-        x: Extensions,
-    ) -> io::Result<Entry> {
-        self.noted(
-            format!(
-                "mknod {} inode={inode} name={} mode={mode} rdev={rdev} umask={umask} {}",
-                c(ctx),
-                s(name),
-                e(&x)
-            ),
-            || Ok(self.source_by(ctx)?.entry(name, ctx)),
-            |a| format!(" node={}", a.inode),
-        )
-    }
-    fn mkdir(
-        &self,
-        ctx: Context,
-        parent: u64,
-        name: &CStr,
-        mode: u32,
-        umask: u32,
-        x: Extensions,
-    ) -> io::Result<Entry> {
-        self.noted(
-            format!(
-                "mkdir {} parent={parent} name={} mode={mode} umask={umask} {}",
-                c(ctx),
-                s(name),
-                e(&x)
-            ),
-            || Ok(self.source_by(ctx)?.entry(name, ctx)),
-            |a| format!(" node={}", a.inode),
-        )
-    }
-    fn unlink(&self, ctx: Context, parent: u64, name: &CStr) -> io::Result<()> {
-        self.noted(
-            format!("unlink {} parent={parent} name={}", c(ctx), s(name)),
-            || self.q(ctx).map(drop),
-            nothing,
-        )
-    }
-    fn rmdir(&self, ctx: Context, parent: u64, name: &CStr) -> io::Result<()> {
-        self.noted(
-            format!("rmdir {} parent={parent} name={}", c(ctx), s(name)),
-            || self.q(ctx).map(drop),
-            nothing,
-        )
-    }
-    fn rename(
-        &self,
-        ctx: Context,
-        od: u64,
-        on: &CStr,
-        nd: u64,
-        nn: &CStr,
-        flags: u32,
-    ) -> io::Result<()> {
-        self.noted(
-            format!(
-                "rename {} olddir={od} oldname={} newdir={nd} newname={} flags={flags}",
-                c(ctx),
-                s(on),
-                s(nn)
-            ),
-            || self.q(ctx).map(drop),
-            nothing,
-        )
-    }
-    fn link(&self, ctx: Context, inode: u64, newparent: u64, newname: &CStr) -> io::Result<Entry> {
-        self.noted(
-            format!("link {} inode={inode} newparent={newparent} newname={}", c(ctx), s(newname)),
-            || Ok(self.source_by(ctx)?.entry(newname, ctx)),
-            |a| format!(" node={}", a.inode),
-        )
-    }
-    fn open(
-        &self,
-        ctx: Context,
-        inode: u64,
-        kill_priv: bool,
-        flags: u32,
-    ) -> io::Result<(Option<u64>, OpenOptions)> {
-        self.noted(
-            format!("open {} inode={inode} kill_priv={kill_priv} flags={flags}", c(ctx)),
-            || Ok(self.source_by(ctx)?.opening()),
-            |a| format!(" {}", h(a.0, a.1)),
-        )
-    }
-    fn create(
-        &self,
-        ctx: Context,
-        parent: u64,
-        name: &CStr,
-        mode: u32,
-        kill_priv: bool,
-        flags: u32,
-        umask: u32,
-        x: Extensions,
-    ) -> io::Result<(Entry, Option<u64>, OpenOptions)> {
-        self.noted(
-            format!(
-                "create {} parent={parent} name={} mode={mode} kill_priv={kill_priv} \
-                 flags={flags} umask={umask} {}",
-                c(ctx),
-                s(name),
-                e(&x)
-            ),
-            || Ok(self.source_by(ctx)?.creation(name, ctx)),
-            |a| format!(" node={} {}", a.0.inode, h(a.1, a.2)),
-        )
+    calls! { self, ctx:
+        lookup(parent: u64, name: &CStr) -> Entry {
+            self.keep(ctx);
+            let source = match (self.answers.take(), name.to_bytes().first()) {
+                (Some(told), _) => self.told(told),
+                (None, Some(b'x')) => os(libc::ENOENT),
+                (None, Some(b'y')) => none(),
+                (None, _) => self.by_word(),
+            };
+            Ok(source?.entry(name, ctx))
+        } node;
+        getattr(inode: u64, handle: Option<u64>) -> (Attr, Duration) {
+            let t = self.q(ctx)? + inode % 1000 + handle.unwrap_or(0) % 7;
+            Ok((seeds::attr(t, inode, ctx), time(t)))
+        } nothing;
+        setattr(inode: u64, attr: SetattrIn, handle: Option<u64>, valid: SetattrValid) -> (Attr, Duration) {
+            let q = self.q(ctx)?;
+            let a = Attr {
+                size: attr.size,
+                atime: attr.atime,
+                mtime: attr.mtime,
+                ctime: attr.ctime,
+                atimensec: attr.atimensec,
+                mtimensec: attr.mtimensec,
+                ctimensec: attr.ctimensec,
+                mode: attr.mode,
+                uid: attr.uid,
+                gid: attr.gid,
+                nlink: if handle.is_some() { 77 } else { 1 },
+                flags: valid.bits(),
+                ..seeds::attr(q, inode, ctx)
+            };
+            Ok((a, time(q)))
+        } nothing;
+        readlink(inode: u64) -> Vec<u8> {
+            let q = self.q(ctx)?;
+            Ok(bytes(q, q % 300))
+        } nothing;
+        symlink(linkname: &CStr, parent: u64, name: &CStr, ext: Extensions) -> Entry {
+            self.entry(name, ctx)
+        } node;
+        mknod(inode: u64, name: &CStr, mode: u32, rdev: u32, umask: u32, ext: Extensions) -> Entry {
+            self.entry(name, ctx)
+        } node;
+        mkdir(parent: u64, name: &CStr, mode: u32, umask: u32, ext: Extensions) -> Entry {
+            self.entry(name, ctx)
+        } node;
+        unlink(parent: u64, name: &CStr) -> () { self.done(ctx) } nothing;
+        rmdir(parent: u64, name: &CStr) -> () { self.done(ctx) } nothing;
+        rename(olddir: u64, oldname: &CStr, newdir: u64, newname: &CStr, flags: u32) -> () {
+            self.done(ctx)
+        } nothing;
+        link(inode: u64, newparent: u64, newname: &CStr) -> Entry { self.entry(newname, ctx) } node;
+        open(inode: u64, kill_priv: bool, flags: u32) -> (Option<u64>, OpenOptions) {
+            Ok(self.source_by(ctx)?.opening())
+        } opened;
+        create(parent: u64, name: &CStr, mode: u32, kill_priv: bool, flags: u32, umask: u32, ext: Extensions)
+            -> (Entry, Option<u64>, OpenOptions) {
+            Ok(self.source_by(ctx)?.creation(name, ctx))
+        } |a| node(&a.0) + &opened(&(a.1, a.2));
+        flush(inode: u64, handle: u64, owner: u64) -> () { self.done(ctx) } nothing;
+        fsync(inode: u64, datasync: bool, handle: u64) -> () { self.done(ctx) } nothing;
+        fallocate(inode: u64, handle: u64, mode: u32, offset: u64, length: u64) -> () {
+            self.done(ctx)
+        } nothing;
+        release(inode: u64, flags: u32, handle: u64, flush: bool, flock_release: bool, owner: Option<u64>)
+            -> () {
+            self.done(ctx)
+        } nothing;
+        statfs(inode: u64) -> libc::statvfs64 {
+            let q = self.q(ctx)?;
+            Ok(libc::statvfs64 {
+                f_bsize: (q % 2 << 32) + 512 + q,
+                f_frsize: 4096 + q,
+                f_blocks: q * 3,
+                f_bfree: q * 2,
+                f_bavail: q,
+                f_files: q + 7,
+                f_ffree: q + 5,
+                f_namemax: 255 + (q % 3 << 32),
+            })
+        } nothing;
+        setxattr(inode: u64, name: &CStr, value: &[u8], flags: u32, extra: SetxattrFlags) -> () {
+            self.done(ctx)
+        } nothing;
+        getxattr(inode: u64, name: &CStr, size: u32) -> GetxattrReply {
+            let q = self.q(ctx)?;
+            Ok(match q % 3 {
+                0 => GetxattrReply::Count(q as u32),
+                _ => GetxattrReply::Value(bytes(q, q / 3 % 500)),
+            })
+        } nothing;
+        listxattr(inode: u64, size: u32) -> ListxattrReply {
+            let q = self.q(ctx)?;
+            Ok(match q % 3 {
+                0 => ListxattrReply::Count(q as u32),
+                _ => ListxattrReply::Names(bytes(q, q / 3 % 500)),
+            })
+        } nothing;
+        removexattr(inode: u64, name: &CStr) -> () { self.done(ctx) } nothing;
+        opendir(inode: u64, flags: u32) -> (Option<u64>, OpenOptions) {
+            Ok(self.source_by(ctx)?.opening())
+        } opened;
+        readdir(inode: u64, handle: u64, size: u32, offset: u64) -> ScriptDir {
+            self.keep(ctx);
+            let source = match self.answers.take() {
+                Some(Told::Directory(items, endless)) => {
+                    return Ok(ScriptDir::Told(ToldDir { items, endless, place: 0 }));
+                }
+                Some(told) => self.told(told),
+                None => self.by_word(),
+            };
+            Ok(ScriptDir::Seeded(SeededDir { q: source?.seed(), k: offset, name: CString::default() }))
+        } nothing;
+        fsyncdir(inode: u64, datasync: bool, handle: u64) -> () { self.done(ctx) } nothing;
+        releasedir(inode: u64, flags: u32, handle: u64) -> () { self.done(ctx) } nothing;
+        access(inode: u64, mask: u32) -> () { self.done(ctx) } nothing;
+        lseek(inode: u64, handle: u64, offset: u64, whence: u32) -> u64 {
+            let q = self.q(ctx)?;
+            Ok(if q % 2 == 0 { offset } else { q })
+        } |at| format!(" offset={at}");
+        copyfilerange(inode_in: u64, handle_in: u64, offset_in: u64, inode_out: u64, handle_out: u64,
+            offset_out: u64, len: u64, flags: u64) -> usize {
+            Ok(len.min(self.q(ctx)?) as usize)
+        } count;
+        syncfs(inode: u64) -> () { self.done(ctx) } nothing;
     }
     fn read<W: ZeroCopyWriter>(
         &self,
         ctx: Context,
         inode: u64,
         handle: u64,
-        w: W,
+        mut w: W,
         size: u32,
         offset: u64,
         owner: Option<u64>,
         flags: u32,
     ) -> io::Result<usize> {
+        let (caller, owner) = (c(ctx), owner.noted("owner"));
         self.noted(
             format!(
-                "read {} inode={inode} handle={handle} size={size} offset={offset} owner={} \
-                 flags={flags}",
-                c(ctx),
-                o(owner)
+                "read {caller} inode={inode} handle={handle} size={size} offset={offset} {owner} \
+                 flags={flags}"
             ),
-            || {
-                let mut w = w;
-                let q = self.q(ctx)?;
-                self.parts(q, size, offset, |f, n, off| w.read_from_file_at(f, n, off))
-            },
-            |n| format!(" count={n}"),
+            || self.parts(self.q(ctx)?, size, offset, |f, n, off| w.read_from_file_at(f, n, off)),
+            count,
         )
     }
     fn write<R: ZeroCopyReader>(
@@ -515,7 +452,7 @@ impl FileSystem for SeededFs {
         ctx: Context,
         inode: u64,
         handle: u64,
-        r: R,
+        mut r: R,
         size: u32,
         offset: u64,
         owner: Option<u64>,
@@ -523,291 +460,22 @@ impl FileSystem for SeededFs {
         kill_priv: bool,
         flags: u32,
     ) -> io::Result<usize> {
+        let (caller, owner) = (c(ctx), owner.noted("owner"));
         self.noted(
             format!(
-                "write {} inode={inode} handle={handle} size={size} offset={offset} \
-                 owner={} delayed_write={delayed} kill_priv={kill_priv} flags={flags}",
-                c(ctx),
-                o(owner)
+                "write {caller} inode={inode} handle={handle} size={size} offset={offset} {owner} \
+                 delayed_write={delayed} kill_priv={kill_priv} flags={flags}"
             ),
             || {
-                let mut r = r;
-                let q = self.q(ctx)?;
-                self.parts(q, size, offset, |f, n, off| r.write_to_file_at(f, n, off, None))
-            },
-            |n| format!(" count={n}"),
-        )
-    }
-    fn flush(&self, ctx: Context, inode: u64, handle: u64, owner: u64) -> io::Result<()> {
-        self.noted(
-            format!("flush {} inode={inode} handle={handle} owner={owner}", c(ctx)),
-            || self.q(ctx).map(drop),
-            nothing,
-        )
-    }
-    fn fsync(&self, ctx: Context, inode: u64, datasync: bool, handle: u64) -> io::Result<()> {
-        self.noted(
-            format!("fsync {} inode={inode} datasync={datasync} handle={handle}", c(ctx)),
-            || self.q(ctx).map(drop),
-            nothing,
-        )
-    }
-    fn fallocate(
-        &self,
-        ctx: Context,
-        inode: u64,
-        handle: u64,
-        mode: u32,
-        offset: u64,
-        length: u64,
-    ) -> io::Result<()> {
-        self.noted(
-            format!(
-                "fallocate {} inode={inode} handle={handle} mode={mode} offset={offset} \
-                 length={length}",
-                c(ctx)
-            ),
-            || self.q(ctx).map(drop),
-            nothing,
-        )
-    }
-    fn release(
-        &self,
-        ctx: Context,
-        inode: u64,
-        flags: u32,
-        handle: u64,
-        flush: bool,
-        flock: bool,
-        owner: Option<u64>,
-    ) -> io::Result<()> {
-        self.noted(
-            format!(
-                "release {} inode={inode} flags={flags} handle={handle} flush={flush} \
-                 flock_release={flock} owner={}",
-                c(ctx),
-                o(owner)
-            ),
-            || self.q(ctx).map(drop),
-            nothing,
-        )
-    }
-    fn statfs(&self, ctx: Context, inode: u64) -> io::Result<libc::statvfs64> {
-        self.noted(
-            format!("statfs {} inode={inode}", c(ctx)),
-            || {
-                let q = self.q(ctx)?;
-                Ok(libc::statvfs64 {
-                    f_bsize: (q % 2 << 32) + 512 + q,
-                    f_frsize: 4096 + q,
-                    f_blocks: q * 3,
-                    f_bfree: q * 2,
-                    f_bavail: q,
-                    f_files: q + 7,
-                    f_ffree: q + 5,
-                    f_namemax: 255 + (q % 3 << 32),
+                self.parts(self.q(ctx)?, size, offset, |f, n, off| {
+                    r.write_to_file_at(f, n, off, None)
                 })
             },
-            nothing,
+            count,
         )
     }
-    fn setxattr(
-        &self,
-        ctx: Context,
-        inode: u64,
-        name: &CStr,
-        value: &[u8],
-        flags: u32,
-        extra: SetxattrFlags,
-    ) -> io::Result<()> {
-        self.noted(
-            format!(
-                "setxattr {} inode={inode} name={} value={} flags={flags} extra={}",
-                c(ctx),
-                s(name),
-                hex(value),
-                extra.bits()
-            ),
-            || self.q(ctx).map(drop),
-            nothing,
-        )
-    }
-    fn getxattr(
-        &self,
-        ctx: Context,
-        inode: u64,
-        name: &CStr,
-        size: u32,
-    ) -> io::Result<GetxattrReply> {
-        self.noted(
-            format!("getxattr {} inode={inode} name={} size={size}", c(ctx), s(name)),
-            || {
-                let q = self.q(ctx)?;
-                Ok(if q % 3 == 0 {
-                    GetxattrReply::Count(q as u32)
-                } else {
-                    GetxattrReply::Value(bytes(q, q / 3 % 500))
-                })
-            },
-            nothing,
-        )
-    }
-    fn listxattr(&self, ctx: Context, inode: u64, size: u32) -> io::Result<ListxattrReply> {
-        self.noted(
-            format!("listxattr {} inode={inode} size={size}", c(ctx)),
-            || {
-                let q = self.q(ctx)?;
-                Ok(if q % 3 == 0 {
-                    ListxattrReply::Count(q as u32)
-                } else {
-                    ListxattrReply::Names(bytes(q, q / 3 % 500))
-                })
-            },
-            nothing,
-        )
-    }
-    fn removexattr(&self, ctx: Context, inode: u64, name: &CStr) -> io::Result<()> {
-        self.noted(
-            format!("removexattr {} inode={inode} name={}", c(ctx), s(name)),
-            || self.q(ctx).map(drop),
-            nothing,
-        )
-    }
-    fn opendir(
-        &self,
-        ctx: Context,
-        inode: u64,
-        flags: u32,
-    ) -> io::Result<(Option<u64>, OpenOptions)> {
-        self.noted(
-            format!("opendir {} inode={inode} flags={flags}", c(ctx)),
-            || Ok(self.source_by(ctx)?.opening()),
-            |a| format!(" {}", h(a.0, a.1)),
-        )
-    }
-    fn readdir(
-        &self,
-        ctx: Context,
-        inode: u64,
-        handle: u64,
-        size: u32,
-        offset: u64,
-    ) -> io::Result<Self::DirIter> {
-        self.noted(
-            format!("readdir {} inode={inode} handle={handle} size={size} offset={offset}", c(ctx)),
-            || {
-                self.keep(ctx);
-                let source = match self.answers.take() {
-                    Some(Told::Directory(items, endless)) => {
-                        return Ok(ScriptDir::Told(ToldDir { items, endless, place: 0 }));
-                    }
-                    Some(told) => self.told(told),
-                    None => self.by_word(),
-                };
-                Ok(ScriptDir::Seeded(SeededDir {
-                    q: source?.seed(),
-                    k: offset,
-                    name: CString::default(),
-                }))
-            },
-            nothing,
-        )
-    }
-    fn fsyncdir(&self, ctx: Context, inode: u64, datasync: bool, handle: u64) -> io::Result<()> {
-        self.noted(
-            format!("fsyncdir {} inode={inode} datasync={datasync} handle={handle}", c(ctx)),
-            || self.q(ctx).map(drop),
-            nothing,
-        )
-    }
-    fn releasedir(&self, ctx: Context, inode: u64, flags: u32, handle: u64) -> io::Result<()> {
-        self.noted(
-            format!("releasedir {} inode={inode} flags={flags} handle={handle}", c(ctx)),
-            || self.q(ctx).map(drop),
-            nothing,
-        )
-    }
-    fn access(&self, ctx: Context, inode: u64, mask: u32) -> io::Result<()> {
-        self.noted(
-            format!("access {} inode={inode} mask={mask}", c(ctx)),
-            || self.q(ctx).map(drop),
-            nothing,
-        )
-    }
-    fn lseek(
-        &self,
-        ctx: Context,
-        inode: u64,
-        handle: u64,
-        offset: u64,
-        whence: u32,
-    ) -> io::Result<u64> {
-        self.noted(
-            format!(
-                "lseek {} inode={inode} handle={handle} offset={offset} whence={whence}",
-                c(ctx)
-            ),
-            || {
-                let q = self.q(ctx)?;
-                Ok(if q % 2 == 0 { offset } else { q })
-            },
-            |n| format!(" offset={n}"),
-        )
-    }
-    fn copyfilerange(
-        &self,
-        ctx: Context,
-        ii: u64,
-        hi: u64,
-        fi: u64,
-        io_: u64,
-        ho: u64,
-        fo: u64,
-        len: u64,
-        flags: u64,
-    ) -> io::Result<usize> {
-        self.noted(
-            format!(
-                "copyfilerange {} inode_in={ii} handle_in={hi} offset_in={fi} \
-                 inode_out={io_} handle_out={ho} offset_out={fo} len={len} flags={flags}",
-                c(ctx)
-            ),
-            || Ok(len.min(self.q(ctx)?) as usize),
-            |n| format!(" count={n}"),
-        )
-    }
-    fn syncfs(&self, ctx: Context, inode: u64) -> io::Result<()> {
-        self.noted(format!("syncfs {} inode={inode}", c(ctx)), || self.q(ctx).map(drop), nothing)
-    }
-    fn getlk(&self) -> io::Result<()> {
-        self.noted("getlk", || self.plain().map(drop), nothing)
-    }
-    fn setlk(&self) -> io::Result<()> {
-        self.noted("setlk", || self.plain().map(drop), nothing)
-    }
-    fn setlkw(&self) -> io::Result<()> {
-        self.noted("setlkw", || self.plain().map(drop), nothing)
-    }
-    fn ioctl(&self) -> io::Result<()> {
-        self.noted("ioctl", || self.plain().map(drop), nothing)
-    }
-    fn bmap(&self) -> io::Result<()> {
-        self.noted("bmap", || self.plain().map(drop), nothing)
-    }
-    fn poll(&self) -> io::Result<()> {
-        self.noted("poll", || self.plain().map(drop), nothing)
-    }
-    fn notify_reply(&self) -> io::Result<()> {
-        self.noted("notify_reply", || self.plain().map(drop), nothing)
-    }
+    bare_calls! { self: getlk setlk setlkw ioctl bmap poll notify_reply }
     fn tmpfile(&self) -> io::Result<(Entry, Option<u64>, OpenOptions)> {
-        self.noted(
-            "tmpfile",
-            || {
-                self.plain()?;
-                os(libc::ENOSYS)
-            },
-            nothing,
-        )
+        self.noted("tmpfile", || self.source().and_then(|_| os(libc::ENOSYS)), nothing)
     }
 }

@@ -23,6 +23,12 @@ pub fn bare_entry(inode: u64) -> Entry {
     }
 }
 
+/// An entry that a kernel keeps for a second.
+pub fn kept_entry(generation: u64, attr: Attr) -> Entry {
+    let second = Duration::from_secs(1);
+    Entry { inode: attr.ino, generation, attr, attr_timeout: second, entry_timeout: second }
+}
+
 pub fn bytes(q: u64, n: u64) -> Vec<u8> {
     (0..n).map(|i| ((q + i) % 256) as u8).collect()
 }

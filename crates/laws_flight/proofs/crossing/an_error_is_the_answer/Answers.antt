@@ -3,8 +3,8 @@ use Rattle.vfs_files.specs.Calls.{Getattr, TimedAttributes, Answer, Done, Failed
 use Rattle.vfs_files.specs.Runs.{Called}
 use Rattle.vfs_grammar.specs.Forms.{Ask}
 use Rattle.vfs_grammar.specs.Listing.{given_back}
-use Rattle.door_calls.specs.declared.data.AnswerData.{AnswerData}
-use Rattle.door_answer.specs.Said.{IsSaid, IsFailed}
+use Rattle.codec_calls.specs.declared.data.AnswerData.{AnswerData}
+use Rattle.codec_encode.specs.Said.{IsSaid, IsFailed}
 use Rattle.laws_flight.specs.OneTurn.{HappenedBetween}
 use Rattle.laws_flight.proofs.crossing.an_error_is_the_answer.Goals as goal
 

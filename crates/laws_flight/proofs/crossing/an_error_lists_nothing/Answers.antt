@@ -3,9 +3,9 @@ use Rattle.vfs_files.specs.Runs.{Event}
 use Rattle.vfs_grammar.specs.Forms.{Ask}
 use Rattle.vfs_grammar.specs.Listing.{Listing}
 use Rattle.vfs_grammar.specs.Words.{IsRead}
-use Rattle.door_calls.specs.declared.data.AnswerData.{AnswerData}
-use Rattle.door_calls.specs.declared.data.ItemData.{ItemData}
-use Rattle.door_answer.specs.Listing.{IsOfferedBy}
+use Rattle.codec_calls.specs.declared.data.AnswerData.{AnswerData}
+use Rattle.codec_calls.specs.declared.data.ItemData.{ItemData}
+use Rattle.codec_encode.specs.Listing.{IsOfferedBy}
 use Rattle.laws_flight.specs.OneTurn.{HappenedBetween}
 use Rattle.laws_flight.proofs.crossing.an_error_lists_nothing.Goals as goal
 

@@ -2,9 +2,9 @@ use Rattle.std.proofs.Common.{ℕ, List, [], ◌∷◌, length, refl}
 use Rattle.vfs_segments.specs.Written.{Written}
 use Rattle.vfs_grammar.specs.Turn.{Turn}
 use Rattle.vfs_grammar.specs.declared.limits.Limits.{Limits}
-use Rattle.door_calls.specs.declared.data.AnswerData.{AnswerData}
-use Rattle.door_calls.specs.declared.data.ItemData.{ItemData}
-use Rattle.door_answer.specs.declared.answered.Answered.{Answered}
+use Rattle.codec_calls.specs.declared.data.AnswerData.{AnswerData}
+use Rattle.codec_calls.specs.declared.data.ItemData.{ItemData}
+use Rattle.codec_encode.specs.declared.answered.Answered.{Answered}
 use Rattle.laws_flight.specs.Flight.{Begins, Completes, Waiting, IsTurnOf}
 use Rattle.laws_flight.specs.OneTurn.{IsAnsweredTurn}
 use Rattle.laws_flight.proofs.crossing.crossing_answers_keep_books.Goals as goal

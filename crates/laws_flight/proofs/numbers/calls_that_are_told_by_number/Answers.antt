@@ -1,5 +1,5 @@
 use Rattle.std.proofs.Common.{ap}
-use Rattle.door_calls.specs.declared.call.CallData.{CallData}
+use Rattle.codec_calls.specs.declared.call.CallData.{CallData}
 use Rattle.vfs_files.specs.Calls.{Bmap, Destroy, Getlk, Init, Ioctl, NotifyReply, Poll, Setlk, Setlkw, Tmpfile}
 use Rattle.laws_flight.proofs.numbers.calls_that_are_told_by_number.Goals as goal
 

@@ -1,8 +1,8 @@
 use Rattle.std.proofs.Common.{subst}
 use Rattle.vfs_flags.specs.Flags.{fs_options_bits}
 use Rattle.vfs_messages.specs.Rooms.{with_after}
-use Rattle.door_ask.specs.Asked.{IsAsked}
-use Rattle.door_ask.specs.declared.asked.Asked.{Asked}
+use Rattle.codec_decode.specs.Asked.{IsAsked}
+use Rattle.codec_decode.specs.declared.asked.Asked.{Asked}
 use Rattle.laws_flight.proofs.uses.ask_alone.Goals as goal
 
 pub returns-in-Finished : goal.returns-in-Finished

@@ -2,8 +2,8 @@ use Rattle.std.proofs.Common.{◌≡◌, ◌≤◌, ◌+◌, ◌-◌, ◌∙◌,
 use Rattle.std.proofs.lemmas.List.{length-replicate}
 use Rattle.vfs_flags.specs.Flags.{fs_options_bits}
 use Rattle.vfs_messages.specs.Rooms.{with_after}
-use Rattle.door_ask.specs.Asked.{IsAsked, IsEnough}
-use Rattle.door_ask.specs.declared.asked.Asked.{Asked}
+use Rattle.codec_decode.specs.Asked.{IsAsked, IsEnough}
+use Rattle.codec_decode.specs.declared.asked.Asked.{Asked}
 use Rattle.laws_flight.proofs.OneTurn.{answered_turn}
 use Rattle.laws_flight.proofs.uses.ask_and_answer.Goals as goal
 

@@ -1,6 +1,6 @@
 use Rattle.std.proofs.Common.{List, ℕ, Option, ap, subst}
 use Rattle.vfs_files.specs.Calls.{Getattr, Lookup, Mkdir}
-use Rattle.door_calls.specs.declared.call.CallData.{CallData}
+use Rattle.codec_calls.specs.declared.call.CallData.{CallData}
 use Rattle.laws_flight.specs.Table.{TellsContext}
 use Rattle.laws_flight.proofs.uses.what_is_not_there_is_told_so.Goals as goal
 

@@ -1,6 +1,6 @@
 use Rattle.std.proofs.Common.{[], ◌∷◌, ◌++◌, subst}
 use Rattle.vfs_grammar.specs.Books.{KeepsBooks}
-use Rattle.door_ask.specs.Further.{What}
+use Rattle.codec_decode.specs.Further.{What}
 use Rattle.laws_flight.specs.OfferedTurns.{seen_of}
 use Rattle.laws_flight.proofs.uses_offered.a_tmpfile_in_order_is_counted.Goals as goal
 

@@ -1,6 +1,6 @@
 use Rattle.std.proofs.Common.{ap}
 use Rattle.vfs_segments.specs.Segments.{flat_bytes, segments_of}
-use Rattle.door_calls.specs.declared.call.CallData.{CallData}
+use Rattle.codec_calls.specs.declared.call.CallData.{CallData}
 use Rattle.nizwarf_tree.specs.Offered.{what_asked}
 use Rattle.nizwarf_tree.proofs.Asking.{is_ordinary, is_row, is_short, is_text, is_unnamed}
 use Rattle.nizwarf_tree.proofs.offered.asked.Goals as goal

@@ -1,14 +1,15 @@
 //! The line of each answer.
 
 use super::Notes;
+use crate::Said;
 use crate::seeded::listing::DirectoryItems;
 use bitflags::Flags;
 use vfs_files::Given;
-use vfs_flags::{Fault, OpenOptions};
+use vfs_flags::OpenOptions;
 
 impl Notes {
     /// Notes an answer, and the numbers that it shows.
-    pub fn note_answer(&mut self, answer: &Result<Given, Fault>) {
+    pub fn note_answer(&mut self, answer: &Said<Given>) {
         self.answer(answer);
         match answer {
             Ok(Given::Options(want)) => self.bits("want", want.bits()),
@@ -32,7 +33,7 @@ impl Notes {
     }
 
     /// Notes an answer that says how many bytes were moved.
-    pub fn note_moved(&mut self, answer: &Result<usize, Fault>) {
+    pub fn note_moved(&mut self, answer: &Said<usize>) {
         self.answer(answer);
         if let Ok(count) = answer {
             self.number("count", *count as u64);
@@ -41,7 +42,7 @@ impl Notes {
     }
 
     /// Notes the answer to a READDIR.
-    pub fn note_listed(&mut self, answer: &Result<DirectoryItems, Fault>) {
+    pub fn note_listed(&mut self, answer: &Said<DirectoryItems>) {
         self.answer(answer);
         self.end();
     }

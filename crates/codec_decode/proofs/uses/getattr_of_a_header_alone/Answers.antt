@@ -1,0 +1,12 @@
+use Rattle.vfs_flags.specs.Flags.{fs_options_bits}
+use Rattle.vfs_flags.specs.Numbers.{opcode_of}
+use Rattle.vfs_wire.specs.Fields.{number}
+use Rattle.codec_decode.proofs.Short.{usual, told_in_all}
+use Rattle.codec_decode.proofs.uses.getattr_of_a_header_alone.Goals as goal
+
+pub returns : goal.returns
+unfolding number opcode_of
+returns c =
+    let told = told_in_all usual (fs_options_bits c.args.options) c.available_bytes-room.result c.args.r.left c.args.w.now c.ask.new.w c.ask.new.call c.ask.result
+    c.ask.ensures.asked c.available_bytes-room.ensures in
+    rw (c.requires) at told

@@ -1,0 +1,19 @@
+use Rattle.std.proofs.Common.{inl, inr}
+use Rattle.vfs_flags.specs.Flags.{fs_options_bits}
+use Rattle.vfs_flags.specs.Numbers.{opcode_of}
+use Rattle.vfs_wire.specs.Fields.{number}
+use Rattle.codec_decode.specs.Memory.{LacksNoMemory}
+use Rattle.codec_decode.proofs.Memory.{not_refused}
+use Rattle.codec_decode.proofs.Short.{usual, told_in_all}
+use Rattle.codec_decode.proofs.uses.look_up_a_in_one_segment.Goals as goal
+
+pub returns : goal.returns
+unfolding number opcode_of
+returns c =
+    let told = told_in_all usual (fs_options_bits c.args.options) c.available_bytes-room.result c.args.r.left c.args.w.now c.ask.new.w c.ask.new.call c.ask.result
+    c.ask.ensures.asked c.available_bytes-room.ensures in
+    let has : LacksNoMemory c.ask.result = (rw (c.requires.request, c.requires.together) at c.ask.ensures.memory) (λ cut. let a = cut in cc) in
+    elim (rw (c.requires.request) at told) [
+      | inl t ↦ record { is_call = t.0; numbers = t.1.numbers; name = t.1.places }
+      | inr t ↦ absurd (not_refused 0 c.args.w.now c.ask.new.w c.ask.new.call c.ask.result has t.1)
+    ]

@@ -1,5 +1,0 @@
-use Rattle.door_answer.proofs.Taking.{Taking}
-use Rattle.door_answer.proofs.listing.put_items.Given as goal
-
-abbrev pub invariant-items : goal.invariant-items
-invariant-items l = Taking l.plus l.size l.items l.fn.w l.offered-index l.written l.taken l.w

@@ -1,7 +1,0 @@
-use Rattle.std.proofs.Common.{◌≡◌, ◌-◌, length, take}
-use Rattle.std.specs.List.{concat}
-use Rattle.vfs_segments.specs.Segments.{segments_of}
-use Rattle.door_ask.proofs.front.is_as_long.Given as goal
-
-abbrev pub invariant-loop-i : goal.invariant-loop-i
-invariant-loop-i l = l.wanted ≡ l.least - length (concat (take l.i (segments_of l.request)))

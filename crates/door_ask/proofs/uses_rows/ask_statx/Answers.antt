@@ -1,6 +1,0 @@
-use Rattle.vfs_wire.specs.Fields.{number}
-use Rattle.door_ask.proofs.uses_rows.ask_statx.Goals as goal
-
-pub returns : goal.returns
-unfolding number
-returns c = rw (c.requires) at c.what.ensures

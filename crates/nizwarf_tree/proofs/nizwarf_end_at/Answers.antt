@@ -1,5 +1,0 @@
-use Rattle.std.proofs.Common.{rules}
-use Rattle.nizwarf_tree.proofs.nizwarf_end_at.Goals as goal
-
-pub returns-clause-code : goal.returns-clause-code
-returns-clause-code c = search rules

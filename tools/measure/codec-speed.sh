@@ -1,0 +1,46 @@
+#!/usr/bin/env bash
+# Counts the instructions that the C interface (include/nizwarf.h) takes to decode a request, and to decode it and encode its
+# reply, for some requests in one segment: a row of a table for each class.
+#
+# Usage: tools/measure/codec-speed.sh [--unproved]
+# It requires the proved library (`rt lib` in crates/nizwarf_codec). With --unproved it measures one without a proof where
+# no proved one is built: that is up to five times slower, because it checks itself as it runs, and the table says so.
+# All instructions are counted, also those of the library's C files, as the difference between a long run and a short one
+# under valgrind.
+set -euo pipefail
+. "$(dirname "$0")/../lib/usage.sh"
+. "$(dirname "$0")/../lib/transport.sh"
+unproved=''
+if [ "${1:-}" = --unproved ]; then
+    unproved=yes
+    shift
+fi
+take_none "$@"
+need_proved "$unproved" nizwarf_codec
+need valgrind "Install it: apt-get install valgrind."
+find_library nizwarf_codec
+folder=$(mktemp -d)
+trap 'rm -rf "$folder"' EXIT
+program=$folder/codec_speed
+cc -std=c11 -O2 -Wall -Wextra -Werror -I "$here/include" -o "$program" "$here/tools/measure/codec_speed.c" "${library[@]}"
+
+# Prints how many instructions a run takes: counted WORD.. Valgrind counts `rep movsb`, by which glibc copies some KiB and
+# more, once for each byte, so glibc copies by vectors here.
+counted() {
+    GLIBC_TUNABLES=glibc.cpu.x86_rep_movsb_threshold=1000000000 valgrind --tool=callgrind \
+        --callgrind-out-file="$folder/counted" "$program" "$@" 2>&1 | sed -n 's/.*Collected : \([0-9]*\).*/\1/p'
+}
+
+# Prints those of one request: instructions CLASS [ask]
+instructions() {
+    echo $((($(counted "$1" 300 "${@:2}") - $(counted "$1" 100 "${@:2}")) / 200))
+}
+
+echo "Measured at commit $(git -C "$here" describe --always --dirty --exclude '*'), $(library_kind nizwarf_codec)."
+echo
+echo "| Request | decode | decode and encode |"
+echo "|---|---|---|"
+# (without an argument it lists its classes, and fails)
+for class in $("$program" || true); do
+    echo "| $class | $(instructions "$class" ask) | $(instructions "$class") |"
+done
