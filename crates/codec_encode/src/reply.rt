@@ -29,7 +29,7 @@ use vfs_segments::Writer;
 use vfs_wire::{Attr, ByteValued, OutHeader, Statvfs64};
 use vfs_wire_more::GetxattrOut;
 
-type Said<T> = std::result::Result<T, Fault>;
+type FsResult<T> = std::result::Result<T, Fault>;
 
 /// Nothing is replied. DESTROY leaves no options.
 pub(crate) fn put_nothing(call: &CallData, w: &mut Writer) -> Answered
@@ -47,14 +47,14 @@ pub(crate) fn put_nothing(call: &CallData, w: &mut Writer) -> Answered
 }
 
 /// Replies that a call was done, or the fault.
-pub(crate) fn put_done(call: &CallData, said: Said<()>, w: &mut Writer) -> Answered
+pub(crate) fn put_done(call: &CallData, said: FsResult<()>, w: &mut Writer) -> Answered
     ensures { (limits : Limits) → Comes limits call.now Told (done_answer said) w.old result w.new }
 {
     Answered::plain(call, reply_done(said, call.unique, w))
 }
 
 /// Replies the fault, if there is one.
-pub(crate) fn put_fault(call: &CallData, said: Said<()>, w: &mut Writer) -> Answered
+pub(crate) fn put_fault(call: &CallData, said: FsResult<()>, w: &mut Writer) -> Answered
     ensures { (limits : Limits) →
         Comes limits call.now Untold (done_answer said) w.old result w.new }
 {
@@ -72,7 +72,7 @@ pub(crate) fn put_fault_alone(call: &CallData, fault: Fault, w: &mut Writer) -> 
 pub(crate) fn put_agreed(
     limits: Limits,
     call: &CallData,
-    want: Said<FsOptions>,
+    want: FsResult<FsOptions>,
     w: &mut Writer,
 ) -> Answered
     requires { AreLimits limits }
@@ -96,7 +96,7 @@ fn given(outcome: &Result<usize>, node: u64) -> u64
 
 /// Replies an entry, or the fault. An entry whose reply doesn't fit is to be given back.
 #[inline(always)]
-pub(crate) fn put_entry(call: &CallData, said: Said<Entry>, w: &mut Writer) -> Answered
+pub(crate) fn put_entry(call: &CallData, said: FsResult<Entry>, w: &mut Writer) -> Answered
     ensures { (limits : Limits) →
         Comes limits call.now Entries (entry_answer said) w.old result w.new }
 {
@@ -115,7 +115,7 @@ pub(crate) fn put_entry(call: &CallData, said: Said<Entry>, w: &mut Writer) -> A
 /// to be given back, and what was opened stays open.
 pub(crate) fn put_created(
     call: &CallData,
-    said: Said<(Entry, Option<u64>, OpenOptions)>,
+    said: FsResult<(Entry, Option<u64>, OpenOptions)>,
     w: &mut Writer,
 ) -> Answered
     ensures { (limits : Limits) →
@@ -136,7 +136,7 @@ pub(crate) fn put_created(
 #[inline(always)]
 pub(crate) fn put_attributes(
     call: &CallData,
-    said: Said<(Attr, Duration)>,
+    said: FsResult<(Attr, Duration)>,
     w: &mut Writer,
 ) -> Answered
     ensures { (limits : Limits) →
@@ -148,7 +148,7 @@ pub(crate) fn put_attributes(
 /// Replies what was opened, or the fault.
 pub(crate) fn put_opened(
     call: &CallData,
-    said: Said<(Option<u64>, OpenOptions)>,
+    said: FsResult<(Option<u64>, OpenOptions)>,
     w: &mut Writer,
 ) -> Answered
     ensures { (limits : Limits) →
@@ -158,7 +158,7 @@ pub(crate) fn put_opened(
 }
 
 /// Replies what the file system holds, or the fault.
-pub(crate) fn put_statistics(call: &CallData, said: Said<Statvfs64>, w: &mut Writer) -> Answered
+pub(crate) fn put_statistics(call: &CallData, said: FsResult<Statvfs64>, w: &mut Writer) -> Answered
     ensures { (limits : Limits) →
         Comes limits call.now Capacities (statistics_answer said) w.old result w.new }
 {
@@ -174,7 +174,7 @@ fn reply_short(text: &[u8], unique: u64, w: &mut Writer) -> Result<usize>
 }
 
 /// Replies the text, or the fault.
-pub(crate) fn put_text(call: &CallData, said: Said<()>, text: &[u8], w: &mut Writer) -> Answered
+pub(crate) fn put_text(call: &CallData, said: FsResult<()>, text: &[u8], w: &mut Writer) -> Answered
     requires { KeepsTextShort (text_said said text.now) }
     ensures { (limits : Limits) →
         Comes limits call.now Texts (text_said said text.now) w.old result w.new }
@@ -200,7 +200,7 @@ fn reply_count(count: u32, unique: u64, w: &mut Writer) -> Result<usize>
 /// Replies the text, or how many bytes it has, or the fault.
 pub(crate) fn put_value(
     call: &CallData,
-    said: Said<Option<u32>>,
+    said: FsResult<Option<u32>>,
     text: &[u8],
     w: &mut Writer,
 ) -> Answered
@@ -217,7 +217,7 @@ pub(crate) fn put_value(
 }
 
 /// Replies a place in a file, or the fault.
-pub(crate) fn put_offset(call: &CallData, said: Said<u64>, w: &mut Writer) -> Answered
+pub(crate) fn put_offset(call: &CallData, said: FsResult<u64>, w: &mut Writer) -> Answered
     ensures { (limits : Limits) →
         Comes limits call.now Offsets (offset_answer said) w.old result w.new }
 {
@@ -225,7 +225,7 @@ pub(crate) fn put_offset(call: &CallData, said: Said<u64>, w: &mut Writer) -> An
 }
 
 /// Replies how many bytes were written, or the fault.
-pub(crate) fn put_written(call: &CallData, said: Said<u32>, w: &mut Writer) -> Answered
+pub(crate) fn put_written(call: &CallData, said: FsResult<u32>, w: &mut Writer) -> Answered
     ensures { (limits : Limits) →
         Comes limits call.now Writes (written_answer said) w.old result w.new }
 {
@@ -250,7 +250,7 @@ fn put_header(count: u32, unique: u64, w: &mut Writer) -> Result<usize>
 
 /// Replies that many bytes of data, which come after the place of their header already, or the
 /// fault. The header alone is put.
-pub(crate) fn put_data(call: &CallData, said: Said<u32>, w: &mut Writer) -> Answered
+pub(crate) fn put_data(call: &CallData, said: FsResult<u32>, w: &mut Writer) -> Answered
     requires short { IfOk said (λ count. count < 2 ^ 32 - 16) }
     requires room { 16 ≤ length w.old.left }
     ensures plain { result ≡ record {

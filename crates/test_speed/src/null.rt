@@ -12,7 +12,7 @@ use vfs_segments::{PositionedFile, Slices, SlicesMut, WritevFlags};
 use vfs_wire::Attr;
 
 /// The result of a call, or its fault.
-type Said<T> = Result<T, Fault>;
+type FsResult<T> = Result<T, Fault>;
 
 /// The kind and permissions of a file.
 const FILE_MODE: u32 = 0o100644;
@@ -60,11 +60,11 @@ impl PositionedFile for NullFile {
         view: &Slices<'_>,
         off: u64,
         flags: Option<WritevFlags>,
-    ) -> Said<usize> {
+    ) -> FsResult<usize> {
         Ok(view.total())
     }
 
-    fn read_vectored_at(&mut self, view: &mut SlicesMut<'_>, off: u64) -> Said<usize> {
+    fn read_vectored_at(&mut self, view: &mut SlicesMut<'_>, off: u64) -> FsResult<usize> {
         Ok(view.total())
     }
 }
@@ -104,7 +104,7 @@ impl PartialFileSystem for NullFs {
     ghost permits = { λ old call handed new. ⊤ };
 
     #[inline(always)]
-    fn call(&mut self, asked: CallValue<'_>) -> Said<Given> {
+    fn call(&mut self, asked: CallValue<'_>) -> FsResult<Given> {
         match asked {
             CallValue::Init { .. } => Ok(Given::Options(FsOptions::SECURITY_CTX)),
             CallValue::Lookup { .. } => Ok(Given::Found(entry(attr(2, FILE_MODE, 1, 0), 0))),
@@ -124,7 +124,7 @@ impl PartialFileSystem for NullFs {
         }
     }
 
-    fn read_data<W: ZeroCopyWriter>(&mut self, asked: ReadValue, w: &mut W) -> Said<usize> {
+    fn read_data<W: ZeroCopyWriter>(&mut self, asked: ReadValue, w: &mut W) -> FsResult<usize> {
         w.read_from_file_at(
             &mut NullFile {},
             asked.size.min(MAX_REPLY_DATA) as usize,
@@ -132,7 +132,7 @@ impl PartialFileSystem for NullFs {
         )
     }
 
-    fn write_data<R: ZeroCopyReader>(&mut self, asked: WriteValue, r: &mut R) -> Said<u32> {
+    fn write_data<R: ZeroCopyReader>(&mut self, asked: WriteValue, r: &mut R) -> FsResult<u32> {
         match r.write_to_file_at(&mut NullFile {}, asked.size as usize, asked.offset, None) {
             Ok(count) => Ok(count as u32),
             Err(fault) => Err(fault),
@@ -146,7 +146,7 @@ impl PartialFileSystem for NullFs {
         handle: u64,
         size: u32,
         offset: u64,
-    ) -> Said<NullEntries> {
+    ) -> FsResult<NullEntries> {
         match CStr::from_bytes_with_nul(b"file-0123456789-0000\0") {
             Some(name) => Ok(NullEntries { name, next: offset }),
             None => Err(Some(Errno::EIO)),

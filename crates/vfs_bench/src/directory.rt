@@ -4,7 +4,7 @@ ghost use Rattle.std.specs.Prelude.{◌≡◌, [], IfOk, IfErr, if◌then◌else
 ghost use Rattle.vfs_files.specs.Calls.{out_of_memory};
 ghost use Rattle.vfs_bench.specs.Directories.{items_said};
 
-use crate::Said;
+use crate::FsResult;
 use std::alloc::Global;
 use std::cell::Cell;
 use std::marker::Model;
@@ -58,7 +58,7 @@ impl Model for ScriptDirectory {
 
 impl ScriptDirectory {
     /// A directory of these items, which ends after the last. Want of memory is ENOMEM.
-    pub fn new(alloc: Global, items: Vec<ScriptItem>) -> Said<ScriptDirectory>
+    pub fn new(alloc: Global, items: Vec<ScriptItem>) -> FsResult<ScriptDirectory>
         ensures made { IfOk result (λ directory. directory ≡ record {
           left = items_said items.items;
           again = [];
@@ -70,7 +70,7 @@ impl ScriptDirectory {
 
     /// A directory without end: after the last item the first one comes again. Without an item it
     /// ends all the same. Want of memory is ENOMEM.
-    pub fn endless(alloc: Global, items: Vec<ScriptItem>) -> Said<ScriptDirectory>
+    pub fn endless(alloc: Global, items: Vec<ScriptItem>) -> FsResult<ScriptDirectory>
         ensures made { IfOk result (λ directory. directory ≡ record {
           left = items_said items.items;
           again = items_said items.items;
@@ -81,7 +81,7 @@ impl ScriptDirectory {
     }
 
     /// The directory, which need not end.
-    fn of(alloc: Global, items: Vec<ScriptItem>, endless: bool) -> Said<ScriptDirectory>
+    fn of(alloc: Global, items: Vec<ScriptItem>, endless: bool) -> FsResult<ScriptDirectory>
         ensures made { IfOk result (λ directory. directory ≡ record {
           left = items_said items.items;
           again = if endless then items_said items.items else [];
@@ -106,7 +106,7 @@ impl ScriptDirectory {
     }
 
     /// A reading from the first item on. Want of memory is ENOMEM.
-    pub fn entries(&self) -> Said<ScriptEntries>
+    pub fn entries(&self) -> FsResult<ScriptEntries>
         ensures begun { IfOk result (λ entries. entries ≡ self.now) }
         ensures memory { IfErr result (λ fault. fault ≡ out_of_memory) }
     {

@@ -5,7 +5,7 @@ ghost use Rattle.std.specs.List.{concat};
 ghost use Rattle.vfs_segments.specs.Views.{IsSameRoom};
 ghost use Rattle.vfs_bench.specs.Scripts.{script_answer, called};
 
-use crate::Said;
+use crate::FsResult;
 use vfs_flags::Fault;
 use vfs_segments::{PositionedFile, Slices, SlicesMut, WritevFlags};
 
@@ -29,7 +29,7 @@ pub struct ScriptFile {
 
 impl ScriptFile {
     // Counts a call that is to move `len` bytes, and answers how many it moves.
-    fn called(&mut self, len: usize) -> Said<usize>
+    fn called(&mut self, len: usize) -> FsResult<usize>
         ensures answered { result ≡ script_answer self.old len }
         ensures counted { self.new ≡ called self.old }
         ensures bound { IfOk result (λ n. n ≤ len) }
@@ -54,11 +54,11 @@ impl PositionedFile for ScriptFile {
         view: &Slices<'_>,
         off: u64,
         flags: Option<WritevFlags>,
-    ) -> Said<usize> {
+    ) -> FsResult<usize> {
         self.called(view.total())
     }
 
-    fn read_vectored_at(&mut self, view: &mut SlicesMut<'_>, off: u64) -> Said<usize> {
+    fn read_vectored_at(&mut self, view: &mut SlicesMut<'_>, off: u64) -> FsResult<usize> {
         fill(view, self.byte);
         self.called(view.total())
     }

@@ -15,7 +15,7 @@ pub mod seeded;
 use vfs_flags::Fault;
 
 /// What a call comes to: its answer, or its fault.
-pub type Said<T> = Result<T, Fault>;
+pub type FsResult<T> = Result<T, Fault>;
 
 pub use directory::{ScriptDirectory, ScriptEntries, ScriptItem};
 pub use file::ScriptFile;

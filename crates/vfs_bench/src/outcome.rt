@@ -4,7 +4,7 @@ ghost use Rattle.std.specs.Prelude.{◌≡◌};
 ghost use Rattle.vfs_files.specs.Answers.{Failed, entry_answer, created_answer};
 ghost use Rattle.vfs_bench.specs.Outcomes.{outcome_of, plain_outcome};
 
-use crate::Said;
+use crate::FsResult;
 use crate::note::NoteKind;
 use vfs_files::{Entry, Number};
 use vfs_flags::{Fault, OpenOptions};
@@ -41,7 +41,7 @@ impl Outcome {
 
     /// The outcome of a call whose answer names no node.
     #[tactic(auto, unfolding(crate::specs::Outcomes::plain_outcome))]
-    pub(crate) fn of<T>(answer: &Said<T>) -> Outcome
+    pub(crate) fn of<T>(answer: &FsResult<T>) -> Outcome
         ensures { result ≡ plain_outcome answer.now }
     {
         match answer {
@@ -54,7 +54,7 @@ impl Outcome {
     }
 
     /// The outcome of a call that answers an entry.
-    pub(crate) fn of_entry(answer: &Said<Entry>) -> Outcome
+    pub(crate) fn of_entry(answer: &FsResult<Entry>) -> Outcome
         ensures { result ≡ outcome_of (entry_answer answer.now) }
     {
         match answer {
@@ -67,7 +67,9 @@ impl Outcome {
     }
 
     /// The outcome of `create`.
-    pub(crate) fn of_created<H: Number>(answer: &Said<(Entry, Option<H>, OpenOptions)>) -> Outcome
+    pub(crate) fn of_created<H: Number>(
+        answer: &FsResult<(Entry, Option<H>, OpenOptions)>,
+    ) -> Outcome
         ensures { result ≡ outcome_of (created_answer H.value answer.now) }
     {
         match answer {

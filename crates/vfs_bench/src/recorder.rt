@@ -9,7 +9,7 @@ ghost use Rattle.vfs_bench.specs.Notes.{asked, unanswered};
 ghost use Rattle.vfs_bench.specs.Outcomes.{plain_outcome};
 ghost use Rattle.vfs_bench.specs.Recorded.{IsNoted, recorded};
 
-use crate::Said;
+use crate::FsResult;
 use crate::note::Note;
 use crate::outcome::Outcome;
 use std::alloc::Global;
@@ -54,7 +54,7 @@ impl<F> Recorder<F> {
     /// Notes the calls of this file system, up to `n` of them: takes the room for their notes at
     /// once, so that noting takes none. Want of memory, which lets go of the file system, is
     /// ENOMEM.
-    pub fn new(alloc: Global, inner: F, n: usize) -> Said<Recorder<F>>
+    pub fn new(alloc: Global, inner: F, n: usize) -> FsResult<Recorder<F>>
     where
         F: Drop,
         ensures made { IfOk result (λ recorder. recorder ≡ record {
@@ -156,7 +156,7 @@ impl<F> Recorder<F> {
     }
 
     /// Notes a call whose answer names no node.
-    fn note_answer<T>(&mut self, opcode: Opcode, node: u64, answer: &Said<T>)
+    fn note_answer<T>(&mut self, opcode: Opcode, node: u64, answer: &FsResult<T>)
         ensures inner { self.new.inner ≡ self.old.inner }
         ensures noted { IsNoted self.old (record {
           call = number_of opcode;
@@ -170,7 +170,7 @@ impl<F> Recorder<F> {
     }
 
     /// Notes a call that answers an entry.
-    fn note_entry(&mut self, opcode: Opcode, node: u64, answer: &Said<Entry>)
+    fn note_entry(&mut self, opcode: Opcode, node: u64, answer: &FsResult<Entry>)
         ensures inner { self.new.inner ≡ self.old.inner }
         ensures noted { IsNoted self.old (asked (number_of opcode) node
             (entry_answer answer.now)) self.new }
@@ -209,7 +209,7 @@ impl<F: FileSystem> FileSystem for Recorder<F> {
 
     ghost allows = { recorded F.allows };
 
-    fn lookup(&mut self, ctx: Context, parent: F::Inode, name: CStr<'_>) -> Said<Entry> {
+    fn lookup(&mut self, ctx: Context, parent: F::Inode, name: CStr<'_>) -> FsResult<Entry> {
         let node = parent.number();
         let answer = self.inner.lookup(ctx, parent, name);
         self.note_entry(Opcode::Lookup, node, &answer);
@@ -227,7 +227,7 @@ impl<F: FileSystem> FileSystem for Recorder<F> {
         ctx: Context,
         inode: F::Inode,
         handle: Option<F::Handle>,
-    ) -> Said<(Attr, Duration)>
+    ) -> FsResult<(Attr, Duration)>
         ensures { recorded F.allows self.old
             (Getattr ctx (F.Inode.value inode) (option_map F.Handle.value handle))
             (Plain (attr_answer result))
@@ -246,7 +246,7 @@ impl<F: FileSystem> FileSystem for Recorder<F> {
         attr: SetattrIn,
         handle: Option<F::Handle>,
         valid: SetattrValid,
-    ) -> Said<(Attr, Duration)>
+    ) -> FsResult<(Attr, Duration)>
         ensures { recorded F.allows self.old
             (Setattr ctx (F.Inode.value inode) attr (option_map F.Handle.value handle)
             (setattr_valid_bits valid))
@@ -259,7 +259,7 @@ impl<F: FileSystem> FileSystem for Recorder<F> {
         answer
     }
 
-    fn readlink(&mut self, ctx: Context, inode: F::Inode) -> Said<Vec<u8>> {
+    fn readlink(&mut self, ctx: Context, inode: F::Inode) -> FsResult<Vec<u8>> {
         let node = inode.number();
         let answer = self.inner.readlink(ctx, inode);
         self.note_answer(Opcode::Readlink, node, &answer);
@@ -273,7 +273,7 @@ impl<F: FileSystem> FileSystem for Recorder<F> {
         parent: F::Inode,
         name: CStr<'_>,
         ext: Extensions,
-    ) -> Said<Entry> {
+    ) -> FsResult<Entry> {
         let node = parent.number();
         let answer = self.inner.symlink(ctx, linkname, parent, name, ext);
         self.note_entry(Opcode::Symlink, node, &answer);
@@ -289,7 +289,7 @@ impl<F: FileSystem> FileSystem for Recorder<F> {
         rdev: u32,
         umask: u32,
         ext: Extensions,
-    ) -> Said<Entry> {
+    ) -> FsResult<Entry> {
         let node = inode.number();
         let answer = self.inner.mknod(ctx, inode, name, mode, rdev, umask, ext);
         self.note_entry(Opcode::Mknod, node, &answer);
@@ -304,21 +304,21 @@ impl<F: FileSystem> FileSystem for Recorder<F> {
         mode: u32,
         umask: u32,
         ext: Extensions,
-    ) -> Said<Entry> {
+    ) -> FsResult<Entry> {
         let node = parent.number();
         let answer = self.inner.mkdir(ctx, parent, name, mode, umask, ext);
         self.note_entry(Opcode::Mkdir, node, &answer);
         answer
     }
 
-    fn unlink(&mut self, ctx: Context, parent: F::Inode, name: CStr<'_>) -> Said<()> {
+    fn unlink(&mut self, ctx: Context, parent: F::Inode, name: CStr<'_>) -> FsResult<()> {
         let node = parent.number();
         let answer = self.inner.unlink(ctx, parent, name);
         self.note_answer(Opcode::Unlink, node, &answer);
         answer
     }
 
-    fn rmdir(&mut self, ctx: Context, parent: F::Inode, name: CStr<'_>) -> Said<()> {
+    fn rmdir(&mut self, ctx: Context, parent: F::Inode, name: CStr<'_>) -> FsResult<()> {
         let node = parent.number();
         let answer = self.inner.rmdir(ctx, parent, name);
         self.note_answer(Opcode::Rmdir, node, &answer);
@@ -333,7 +333,7 @@ impl<F: FileSystem> FileSystem for Recorder<F> {
         newdir: F::Inode,
         newname: CStr<'_>,
         flags: u32,
-    ) -> Said<()> {
+    ) -> FsResult<()> {
         let node = olddir.number();
         let answer = self
             .inner
@@ -348,7 +348,7 @@ impl<F: FileSystem> FileSystem for Recorder<F> {
         inode: F::Inode,
         newparent: F::Inode,
         newname: CStr<'_>,
-    ) -> Said<Entry> {
+    ) -> FsResult<Entry> {
         let node = inode.number();
         let answer = self.inner.link(ctx, inode, newparent, newname);
         self.note_entry(Opcode::Link, node, &answer);
@@ -361,7 +361,7 @@ impl<F: FileSystem> FileSystem for Recorder<F> {
         inode: F::Inode,
         kill_priv: bool,
         flags: u32,
-    ) -> Said<(Option<F::Handle>, OpenOptions)> {
+    ) -> FsResult<(Option<F::Handle>, OpenOptions)> {
         let node = inode.number();
         let answer = self.inner.open(ctx, inode, kill_priv, flags);
         self.note_answer(Opcode::Open, node, &answer);
@@ -378,7 +378,7 @@ impl<F: FileSystem> FileSystem for Recorder<F> {
         offset: u64,
         lock_owner: Option<u64>,
         flags: u32,
-    ) -> Said<usize> {
+    ) -> FsResult<usize> {
         let node = inode.number();
         let answer = self
             .inner
@@ -399,7 +399,7 @@ impl<F: FileSystem> FileSystem for Recorder<F> {
         delayed_write: bool,
         kill_priv: bool,
         flags: u32,
-    ) -> Said<u32> {
+    ) -> FsResult<u32> {
         let node = inode.number();
         let answer = self.inner.write(
             ctx,
@@ -417,7 +417,7 @@ impl<F: FileSystem> FileSystem for Recorder<F> {
         answer
     }
 
-    fn statfs(&mut self, ctx: Context, inode: F::Inode) -> Said<Statvfs64> {
+    fn statfs(&mut self, ctx: Context, inode: F::Inode) -> FsResult<Statvfs64> {
         let node = inode.number();
         let answer = self.inner.statfs(ctx, inode);
         self.note_answer(Opcode::Statfs, node, &answer);
@@ -433,7 +433,7 @@ impl<F: FileSystem> FileSystem for Recorder<F> {
         flush: bool,
         flock_release: bool,
         lock_owner: Option<u64>,
-    ) -> Said<()> {
+    ) -> FsResult<()> {
         let node = inode.number();
         let answer = self.inner.release(
             ctx,
@@ -454,7 +454,7 @@ impl<F: FileSystem> FileSystem for Recorder<F> {
         inode: F::Inode,
         datasync: bool,
         handle: F::Handle,
-    ) -> Said<()> {
+    ) -> FsResult<()> {
         let node = inode.number();
         let answer = self.inner.fsync(ctx, inode, datasync, handle);
         self.note_answer(Opcode::Fsync, node, &answer);
@@ -469,7 +469,7 @@ impl<F: FileSystem> FileSystem for Recorder<F> {
         value: &[u8],
         flags: u32,
         extra: SetxattrFlags,
-    ) -> Said<()> {
+    ) -> FsResult<()> {
         let node = inode.number();
         let answer = self.inner.setxattr(ctx, inode, name, value, flags, extra);
         self.note_answer(Opcode::Setxattr, node, &answer);
@@ -482,21 +482,21 @@ impl<F: FileSystem> FileSystem for Recorder<F> {
         inode: F::Inode,
         name: CStr<'_>,
         size: u32,
-    ) -> Said<GetxattrReply> {
+    ) -> FsResult<GetxattrReply> {
         let node = inode.number();
         let answer = self.inner.getxattr(ctx, inode, name, size);
         self.note_answer(Opcode::Getxattr, node, &answer);
         answer
     }
 
-    fn listxattr(&mut self, ctx: Context, inode: F::Inode, size: u32) -> Said<ListxattrReply> {
+    fn listxattr(&mut self, ctx: Context, inode: F::Inode, size: u32) -> FsResult<ListxattrReply> {
         let node = inode.number();
         let answer = self.inner.listxattr(ctx, inode, size);
         self.note_answer(Opcode::Listxattr, node, &answer);
         answer
     }
 
-    fn removexattr(&mut self, ctx: Context, inode: F::Inode, name: CStr<'_>) -> Said<()> {
+    fn removexattr(&mut self, ctx: Context, inode: F::Inode, name: CStr<'_>) -> FsResult<()> {
         let node = inode.number();
         let answer = self.inner.removexattr(ctx, inode, name);
         self.note_answer(Opcode::Removexattr, node, &answer);
@@ -509,14 +509,14 @@ impl<F: FileSystem> FileSystem for Recorder<F> {
         inode: F::Inode,
         handle: F::Handle,
         lock_owner: u64,
-    ) -> Said<()> {
+    ) -> FsResult<()> {
         let node = inode.number();
         let answer = self.inner.flush(ctx, inode, handle, lock_owner);
         self.note_answer(Opcode::Flush, node, &answer);
         answer
     }
 
-    fn init(&mut self, capable: FsOptions) -> Said<FsOptions> {
+    fn init(&mut self, capable: FsOptions) -> FsResult<FsOptions> {
         let answer = self.inner.init(capable);
         self.note_answer(Opcode::Init, 0, &answer);
         answer
@@ -527,7 +527,7 @@ impl<F: FileSystem> FileSystem for Recorder<F> {
         ctx: Context,
         inode: F::Inode,
         flags: u32,
-    ) -> Said<(Option<F::Handle>, OpenOptions)> {
+    ) -> FsResult<(Option<F::Handle>, OpenOptions)> {
         let node = inode.number();
         let answer = self.inner.opendir(ctx, inode, flags);
         self.note_answer(Opcode::Opendir, node, &answer);
@@ -541,7 +541,7 @@ impl<F: FileSystem> FileSystem for Recorder<F> {
         handle: F::Handle,
         size: u32,
         offset: u64,
-    ) -> Said<F::DirIter> {
+    ) -> FsResult<F::DirIter> {
         let node = inode.number();
         let answer = self.inner.readdir(ctx, inode, handle, size, offset);
         self.note_answer(Opcode::Readdir, node, &answer);
@@ -554,7 +554,7 @@ impl<F: FileSystem> FileSystem for Recorder<F> {
         inode: F::Inode,
         flags: u32,
         handle: F::Handle,
-    ) -> Said<()> {
+    ) -> FsResult<()> {
         let node = inode.number();
         let answer = self.inner.releasedir(ctx, inode, flags, handle);
         self.note_answer(Opcode::Releasedir, node, &answer);
@@ -567,32 +567,32 @@ impl<F: FileSystem> FileSystem for Recorder<F> {
         inode: F::Inode,
         datasync: bool,
         handle: F::Handle,
-    ) -> Said<()> {
+    ) -> FsResult<()> {
         let node = inode.number();
         let answer = self.inner.fsyncdir(ctx, inode, datasync, handle);
         self.note_answer(Opcode::Fsyncdir, node, &answer);
         answer
     }
 
-    fn getlk(&mut self) -> Said<()> {
+    fn getlk(&mut self) -> FsResult<()> {
         let answer = self.inner.getlk();
         self.note_answer(Opcode::Getlk, 0, &answer);
         answer
     }
 
-    fn setlk(&mut self) -> Said<()> {
+    fn setlk(&mut self) -> FsResult<()> {
         let answer = self.inner.setlk();
         self.note_answer(Opcode::Setlk, 0, &answer);
         answer
     }
 
-    fn setlkw(&mut self) -> Said<()> {
+    fn setlkw(&mut self) -> FsResult<()> {
         let answer = self.inner.setlkw();
         self.note_answer(Opcode::Setlkw, 0, &answer);
         answer
     }
 
-    fn access(&mut self, ctx: Context, inode: F::Inode, mask: u32) -> Said<()> {
+    fn access(&mut self, ctx: Context, inode: F::Inode, mask: u32) -> FsResult<()> {
         let node = inode.number();
         let answer = self.inner.access(ctx, inode, mask);
         self.note_answer(Opcode::Access, node, &answer);
@@ -609,7 +609,7 @@ impl<F: FileSystem> FileSystem for Recorder<F> {
         flags: u32,
         umask: u32,
         ext: Extensions,
-    ) -> Said<(Entry, Option<F::Handle>, OpenOptions)> {
+    ) -> FsResult<(Entry, Option<F::Handle>, OpenOptions)> {
         let node = parent.number();
         let answer = self
             .inner
@@ -618,7 +618,7 @@ impl<F: FileSystem> FileSystem for Recorder<F> {
         answer
     }
 
-    fn bmap(&mut self) -> Said<()> {
+    fn bmap(&mut self) -> FsResult<()> {
         let answer = self.inner.bmap();
         self.note_answer(Opcode::Bmap, 0, &answer);
         answer
@@ -629,19 +629,19 @@ impl<F: FileSystem> FileSystem for Recorder<F> {
         self.note_told(Opcode::Destroy, 0, 0);
     }
 
-    fn ioctl(&mut self) -> Said<()> {
+    fn ioctl(&mut self) -> FsResult<()> {
         let answer = self.inner.ioctl();
         self.note_answer(Opcode::Ioctl, 0, &answer);
         answer
     }
 
-    fn poll(&mut self) -> Said<()> {
+    fn poll(&mut self) -> FsResult<()> {
         let answer = self.inner.poll();
         self.note_answer(Opcode::Poll, 0, &answer);
         answer
     }
 
-    fn notify_reply(&mut self) -> Said<()> {
+    fn notify_reply(&mut self) -> FsResult<()> {
         let answer = self.inner.notify_reply();
         self.note_answer(Opcode::NotifyReply, 0, &answer);
         answer
@@ -666,7 +666,7 @@ impl<F: FileSystem> FileSystem for Recorder<F> {
         mode: u32,
         offset: u64,
         length: u64,
-    ) -> Said<()> {
+    ) -> FsResult<()> {
         let node = inode.number();
         let answer = self
             .inner
@@ -682,7 +682,7 @@ impl<F: FileSystem> FileSystem for Recorder<F> {
         handle: F::Handle,
         offset: u64,
         whence: u32,
-    ) -> Said<u64> {
+    ) -> FsResult<u64> {
         let node = inode.number();
         let answer = self.inner.lseek(ctx, inode, handle, offset, whence);
         self.note_answer(Opcode::Lseek, node, &answer);
@@ -700,7 +700,7 @@ impl<F: FileSystem> FileSystem for Recorder<F> {
         offset_out: u64,
         len: u64,
         flags: u64,
-    ) -> Said<u32> {
+    ) -> FsResult<u32> {
         let node = inode_in.number();
         let answer = self.inner.copyfilerange(
             ctx, inode_in, handle_in, offset_in, inode_out, handle_out, offset_out, len, flags,
@@ -709,7 +709,7 @@ impl<F: FileSystem> FileSystem for Recorder<F> {
         answer
     }
 
-    fn syncfs(&mut self, ctx: Context, inode: F::Inode) -> Said<()> {
+    fn syncfs(&mut self, ctx: Context, inode: F::Inode) -> FsResult<()> {
         let node = inode.number();
         let answer = self.inner.syncfs(ctx, inode);
         self.note_answer(Opcode::Syncfs, node, &answer);

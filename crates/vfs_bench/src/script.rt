@@ -6,7 +6,7 @@ ghost use Rattle.vfs_files.specs.Answers.{Text, FitsText, written_answer};
 ghost use Rattle.vfs_files.specs.CallValue.{call_of, answer_of, kind_as, IsEntry, IsCreation, IsText, IsTextOrCount, IsDone, IsOfKind};
 ghost use Rattle.vfs_bench.specs.Scripts.{Plays, MayCopy, MayTell, WritesFile, said_by, tells_text, lists_names};
 
-use crate::Said;
+use crate::FsResult;
 use crate::directory::{ScriptDirectory, ScriptEntries};
 use crate::file::ScriptFile;
 use std::time::Duration;
@@ -33,37 +33,37 @@ use vfs_wire::{Attr, Statvfs64};
 #[derive(Drop)]
 pub struct Script {
     /// The options that `init` wants.
-    pub options: Said<FsOptions>,
+    pub options: FsResult<FsOptions>,
     /// What each call answers that answers an entry, as `lookup`.
-    pub entry: Said<Entry>,
+    pub entry: FsResult<Entry>,
     /// What each call answers that answers attributes and how long they hold, as `getattr`.
-    pub attributes: Said<(Attr, Duration)>,
+    pub attributes: FsResult<(Attr, Duration)>,
     /// What `open` and `opendir` answer.
-    pub opening: Said<(Option<u64>, OpenOptions)>,
+    pub opening: FsResult<(Option<u64>, OpenOptions)>,
     /// What `create` answers.
-    pub creation: Said<(Entry, Option<u64>, OpenOptions)>,
+    pub creation: FsResult<(Entry, Option<u64>, OpenOptions)>,
     /// What `statfs` answers.
-    pub statistics: Said<Statvfs64>,
+    pub statistics: FsResult<Statvfs64>,
     /// What `readlink` answers. A text that is too long for a reply is answered as ERANGE.
-    pub text: Said<Vec<u8>>,
+    pub text: FsResult<Vec<u8>>,
     /// What `getxattr` answers, whichever size is asked for. A value that is too long for a reply
     /// is answered as ERANGE.
-    pub value: Said<GetxattrReply>,
+    pub value: FsResult<GetxattrReply>,
     /// What `listxattr` answers, whichever size is asked for. Names that are too long for a reply
     /// are answered as ERANGE.
-    pub names: Said<ListxattrReply>,
+    pub names: FsResult<ListxattrReply>,
     /// What each call answers that answers a place in a file.
-    pub offset: Said<u64>,
+    pub offset: FsResult<u64>,
     /// The file that `read` and `write` move bytes of and into, whatever node they are about, or
     /// none: then they are not served.
     pub file: Option<ScriptFile>,
     /// The directory that `readdir` answers a reading of, from its first item on whatever the
     /// offset.
-    pub directory: Said<ScriptDirectory>,
+    pub directory: FsResult<ScriptDirectory>,
     /// What each call answers that answers how many bytes were copied, as `copyfilerange`.
-    pub written: Said<u32>,
+    pub written: FsResult<u32>,
     /// What each call answers that says only whether it was done, as `unlink`.
-    pub done: Said<()>,
+    pub done: FsResult<()>,
     /// The fault of `tmpfile`.
     pub tmpfile: Fault,
 }
@@ -121,7 +121,7 @@ fn same_entry(entry: &Entry) -> Entry
 }
 
 /// An equal answer.
-fn same_entry_answer(answer: &Said<Entry>) -> Said<Given>
+fn same_entry_answer(answer: &FsResult<Entry>) -> FsResult<Given>
     ensures answer { answer_of result ≡ entry_answer answer.now }
     ensures kind { IsEntry result }
 {
@@ -132,7 +132,7 @@ fn same_entry_answer(answer: &Said<Entry>) -> Said<Given>
 }
 
 /// An equal answer.
-fn same_creation(answer: &Said<(Entry, Option<u64>, OpenOptions)>) -> Said<Given>
+fn same_creation(answer: &FsResult<(Entry, Option<u64>, OpenOptions)>) -> FsResult<Given>
     ensures answer { answer_of result ≡ created_answer (λ handle. handle) answer.now }
     ensures kind { IsCreation result }
 {
@@ -147,7 +147,7 @@ const LONGEST_TEXT: usize = (1 << 32) - 17;
 
 /// The same bytes, in memory of their own: ENOMEM where there is none, and ERANGE where they are
 /// too many for a reply.
-fn same_bytes(bytes: &Vec<u8>) -> Said<Vec<u8>>
+fn same_bytes(bytes: &Vec<u8>) -> FsResult<Vec<u8>>
     ensures told { MayCopy (Text bytes.now.items) (Plain (text_answer result)) }
     ensures short { IfOk result (λ copy. FitsText copy.items) }
 {
@@ -163,7 +163,7 @@ fn write_file<R: ZeroCopyReader>(
     r: &mut R,
     size: u32,
     offset: u64,
-) -> Said<u32>
+) -> FsResult<u32>
     ensures { (bytes : List ℕ) × R.takes r.old bytes r.new
         × WritesFile (Some file.old) (R.left r.old) size offset
         (Plain (written_answer result))
@@ -176,7 +176,7 @@ fn write_file<R: ZeroCopyReader>(
 }
 
 /// The same text as `same_bytes` gives it, or the fault.
-fn same_text(text: &Said<Vec<u8>>) -> Said<Given>
+fn same_text(text: &FsResult<Vec<u8>>) -> FsResult<Given>
     ensures told { MayCopy (text_answer text.now) (Plain (answer_of result)) }
     ensures kind { IsText result }
 {
@@ -187,7 +187,7 @@ fn same_text(text: &Said<Vec<u8>>) -> Said<Given>
 }
 
 /// The same value as `same_bytes` gives it, the same length, or the fault.
-fn same_value(value: &Said<GetxattrReply>) -> Said<Given>
+fn same_value(value: &FsResult<GetxattrReply>) -> FsResult<Given>
     ensures told { MayCopy (getxattr_answer value.now) (Plain (answer_of result)) }
     ensures kind { IsTextOrCount result }
 {
@@ -199,7 +199,7 @@ fn same_value(value: &Said<GetxattrReply>) -> Said<Given>
 }
 
 /// The same names as `same_bytes` gives them, the same length, or the fault.
-fn same_names(names: &Said<ListxattrReply>) -> Said<Given>
+fn same_names(names: &FsResult<ListxattrReply>) -> FsResult<Given>
     ensures told { MayCopy (listxattr_answer names.now) (Plain (answer_of result)) }
     ensures kind { IsTextOrCount result }
 {
@@ -211,7 +211,7 @@ fn same_names(names: &Said<ListxattrReply>) -> Said<Given>
 }
 
 /// An equal answer.
-fn same_done(answer: &Said<()>) -> Said<Given>
+fn same_done(answer: &FsResult<()>) -> FsResult<Given>
     ensures answer { answer_of result ≡ done_answer answer.now }
     ensures kind { IsDone result }
 {
@@ -225,7 +225,7 @@ impl Script {
     // What was set for the answers of a kind; of texts that may be lengths the names of extended
     // attributes, or the value of one.
     #[inline(always)]
-    fn set_for(&self, kind: AnswerKind, lists: bool) -> Said<Given>
+    fn set_for(&self, kind: AnswerKind, lists: bool) -> FsResult<Given>
         ensures told { MayTell (tells_text (kind_as kind))
             (said_by self.now (kind_as kind) lists)
             (Plain (answer_of result)) }
@@ -262,7 +262,7 @@ impl Script {
 
     // What a call answers.
     #[inline(always)]
-    fn given(&self, asked: &CallValue<'_>) -> Said<Given>
+    fn given(&self, asked: &CallValue<'_>) -> FsResult<Given>
         ensures answer { Plays self.now (call_of asked.now) (Plain (answer_of result)) self.now }
         ensures kind { IsOfKind (kind_of (call_of asked.now)) result }
     {
@@ -287,11 +287,11 @@ impl PartialFileSystem for Script {
     ghost permits = { Plays };
 
     #[inline(always)]
-    fn call(&mut self, asked: CallValue<'_>) -> Said<Given> {
+    fn call(&mut self, asked: CallValue<'_>) -> FsResult<Given> {
         self.given(&asked)
     }
 
-    fn read_data<W: ZeroCopyWriter>(&mut self, asked: ReadValue, w: &mut W) -> Said<usize> {
+    fn read_data<W: ZeroCopyWriter>(&mut self, asked: ReadValue, w: &mut W) -> FsResult<usize> {
         match &mut self.file {
             Some(file) => w.read_from_file_at(
                 file,
@@ -302,7 +302,7 @@ impl PartialFileSystem for Script {
         }
     }
 
-    fn write_data<R: ZeroCopyReader>(&mut self, asked: WriteValue, r: &mut R) -> Said<u32> {
+    fn write_data<R: ZeroCopyReader>(&mut self, asked: WriteValue, r: &mut R) -> FsResult<u32> {
         match &mut self.file {
             Some(file) => write_file(file, r, asked.size, asked.offset),
             None => defaults::no_such_call::<u32>(),
@@ -316,7 +316,7 @@ impl PartialFileSystem for Script {
         handle: u64,
         size: u32,
         offset: u64,
-    ) -> Said<ScriptEntries> {
+    ) -> FsResult<ScriptEntries> {
         match &self.directory {
             Ok(directory) => directory.entries(),
             Err(fault) => Err(*fault),

@@ -56,8 +56,7 @@ read_answer (Ok count) bytes = Put bytes
 read_answer (Err fault) bytes = Failed fault
 
 -- the kinds of answers: which of them a call may have beside a fault. `kind_of` in Calls says which kind
--- each call has, and `IsAnswer` below which answers are of it. It is the client that is told or not, by a reply; at the
--- door what is told is what C gets
+-- each call has, and `IsAnswer` below which answers are of it. Told and Untold say whether the client gets a reply
 pub data Kind : Type 0 where
   -- none at all, and no fault either: there is no reply
   Quiet : Kind

@@ -14,7 +14,7 @@ ghost use Rattle.std.specs.Prelude.{◌≤◌, ℕ, List, IfOk};
 ghost use Rattle.vfs_files.specs.Answers.{Counts};
 ghost use Rattle.vfs_segments.specs.Views.{IsSameRoom};
 
-use crate::Said;
+use crate::FsResult;
 use crate::seeded::notes::Notes;
 use vfs_files::{ZeroCopyReader, ZeroCopyWriter};
 use vfs_flags::{Errno, MAX_REPLY_DATA};
@@ -44,7 +44,12 @@ impl Contents {
     }
 
     /// Puts up to `size` bytes into `w`, from `offset` on, and answers how many.
-    pub fn read_into<W: ZeroCopyWriter>(&mut self, w: &mut W, size: u32, offset: u64) -> Said<usize>
+    pub fn read_into<W: ZeroCopyWriter>(
+        &mut self,
+        w: &mut W,
+        size: u32,
+        offset: u64,
+    ) -> FsResult<usize>
         ensures { (bytes : List ℕ) × W.puts w.old bytes w.new × Counts result bytes size }
     {
         let size = size.min(MAX_REPLY_DATA) as usize;
@@ -71,7 +76,7 @@ impl Contents {
         r: &mut R,
         size: u32,
         offset: u64,
-    ) -> Said<usize>
+    ) -> FsResult<usize>
         ensures taken { (bytes : List ℕ) × R.takes r.old bytes r.new }
         ensures within { IfOk result (λ n. n ≤ size) }
     {
@@ -94,7 +99,7 @@ impl Contents {
     }
 
     // How many of `len` bytes a call at a position moves.
-    fn moves(&mut self, off: u64, len: usize) -> Said<usize>
+    fn moves(&mut self, off: u64, len: usize) -> FsResult<usize>
         ensures { IfOk result (λ n. n ≤ len) }
     {
         self.calls = self.calls.saturating_add(1);
@@ -130,7 +135,7 @@ impl PositionedFile for Contents {
         view: &Slices<'_>,
         off: u64,
         _flags: Option<WritevFlags>,
-    ) -> Said<usize> {
+    ) -> FsResult<usize> {
         let answer = self.moves(off, view.total());
         self.notes.file("write", off, view.total(), &answer);
         if let Ok(count) = answer {
@@ -140,7 +145,7 @@ impl PositionedFile for Contents {
         answer
     }
 
-    fn read_vectored_at(&mut self, view: &mut SlicesMut<'_>, off: u64) -> Said<usize> {
+    fn read_vectored_at(&mut self, view: &mut SlicesMut<'_>, off: u64) -> FsResult<usize> {
         let answer = self.moves(off, view.total());
         self.notes.file("read", off, view.total(), &answer);
         if let Ok(count) = answer {

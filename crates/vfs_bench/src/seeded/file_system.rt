@@ -32,7 +32,7 @@ ghost use Rattle.std.specs.Prelude.{◌≤◌, ℕ, List, IfOk};
 ghost use Rattle.vfs_files.specs.Answers.{Counts};
 ghost use Rattle.vfs_files.specs.CallValue.{IsOptions, IsEntry, IsAttributes, IsText, IsTextOrCount};
 
-use crate::Said;
+use crate::FsResult;
 use crate::seeded::contents::Contents;
 use crate::seeded::listing::{DirectoryItems, Seeded};
 use crate::seeded::notes::Notes;
@@ -95,7 +95,7 @@ impl<'a> SeededFs<'a> {
     }
 
     // The seed, or the fault that is the answer.
-    fn seed(&self) -> Said<Source> {
+    fn seed(&self) -> FsResult<Source> {
         let word = self.notes.process();
         let seed = word / 8;
         if word % 8 == 7 {
@@ -106,7 +106,7 @@ impl<'a> SeededFs<'a> {
     }
 
     // What the answer hangs on, or the fault that is the answer.
-    fn source(&self) -> Said<Source> {
+    fn source(&self) -> FsResult<Source> {
         match self.next_told() {
             Some(told) => told.source(),
             None => self.seed(),
@@ -114,7 +114,7 @@ impl<'a> SeededFs<'a> {
     }
 
     // The options that are wanted.
-    fn wanted(&self) -> Said<Given>
+    fn wanted(&self) -> FsResult<Given>
         ensures { IsOptions result }
     {
         let bits = match self.source()? {
@@ -125,7 +125,7 @@ impl<'a> SeededFs<'a> {
     }
 
     // What LOOKUP finds.
-    fn found(&self, ctx: &Context, name: CStr<'_>) -> Said<Given>
+    fn found(&self, ctx: &Context, name: CStr<'_>) -> FsResult<Given>
         ensures { IsEntry result }
     {
         let source = match self.next_told() {
@@ -140,14 +140,14 @@ impl<'a> SeededFs<'a> {
     }
 
     // The entry of a node that is made or gets a name.
-    fn made(&self, ctx: &Context, name: CStr<'_>) -> Said<Given>
+    fn made(&self, ctx: &Context, name: CStr<'_>) -> FsResult<Given>
         ensures { IsEntry result }
     {
         Ok(Given::Found(self.source()?.entry(ctx, name.to_bytes())))
     }
 
     // A reading of a directory from this place on.
-    fn listing(&self, place: u64) -> Said<DirectoryItems> {
+    fn listing(&self, place: u64) -> FsResult<DirectoryItems> {
         let source = match self.next_told() {
             Some(Told::Directory(directory)) => return Ok(DirectoryItems::Told(
                 directory.entries()?,
@@ -159,7 +159,7 @@ impl<'a> SeededFs<'a> {
     }
 
     // The attributes of a node.
-    fn attributes(&self, ctx: &Context, inode: u64, handle: Option<u64>) -> Said<Given>
+    fn attributes(&self, ctx: &Context, inode: u64, handle: Option<u64>) -> FsResult<Given>
         ensures { IsAttributes result }
     {
         let t = u64::from(self.source()?.as_seed()) + inode % 1000 + handle.unwrap_or(0) % 7;
@@ -174,7 +174,7 @@ impl<'a> SeededFs<'a> {
         set: &SetattrIn,
         nlink: u32,
         flags: u32,
-    ) -> Said<Given>
+    ) -> FsResult<Given>
         ensures { IsAttributes result }
     {
         let t = u64::from(self.source()?.as_seed());
@@ -197,7 +197,7 @@ impl<'a> SeededFs<'a> {
     }
 
     // Puts bytes of a file into `w`.
-    fn read_file<W: ZeroCopyWriter>(&mut self, w: &mut W, size: u32, offset: u64) -> Said<usize>
+    fn read_file<W: ZeroCopyWriter>(&mut self, w: &mut W, size: u32, offset: u64) -> FsResult<usize>
         ensures { (bytes : List ℕ) × W.puts w.old bytes w.new × Counts result bytes size }
     {
         let seed = self.source()?.as_seed();
@@ -208,7 +208,12 @@ impl<'a> SeededFs<'a> {
     }
 
     // Takes bytes from `r` for a file.
-    fn write_file<R: ZeroCopyReader>(&mut self, r: &mut R, size: u32, offset: u64) -> Said<usize>
+    fn write_file<R: ZeroCopyReader>(
+        &mut self,
+        r: &mut R,
+        size: u32,
+        offset: u64,
+    ) -> FsResult<usize>
         ensures taken { (bytes : List ℕ) × R.takes r.old bytes r.new }
         ensures within { IfOk result (λ n. n ≤ size) }
     {
@@ -226,7 +231,7 @@ impl<'a> SeededFs<'a> {
     }
 
     // The text of a link.
-    fn text(&self) -> Said<Given>
+    fn text(&self) -> FsResult<Given>
         ensures { IsText result }
     {
         let seed = self.source()?.as_seed();
@@ -234,7 +239,7 @@ impl<'a> SeededFs<'a> {
     }
 
     // The bytes of extended attributes, or their length where there is to be no more.
-    fn attribute(&self) -> Said<Given>
+    fn attribute(&self) -> FsResult<Given>
         ensures { IsTextOrCount result }
     {
         let seed = self.source()?.as_seed();

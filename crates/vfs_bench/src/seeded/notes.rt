@@ -1,6 +1,6 @@
 //! The notes of the calls, as text.
 
-use crate::Said;
+use crate::FsResult;
 use std::alloc::{AllocError, Global};
 use vfs_files::{CStr, Context, Extensions};
 
@@ -152,7 +152,7 @@ impl Notes {
 
     /// Begins the line of a call of a file, of whose answer the bytes that were moved are still to
     /// come.
-    pub fn file(&mut self, call: &str, off: u64, view: usize, answer: &Said<usize>) {
+    pub fn file(&mut self, call: &str, off: u64, view: usize, answer: &FsResult<usize>) {
         let noted = write!(self.text, "  file {call} off={off} view={view} ");
         self.keep(noted);
         let noted = match answer {
@@ -163,7 +163,7 @@ impl Notes {
     }
 
     /// Begins the line of an answer. The parts of one that is no fault go on with it.
-    pub fn answer<T>(&mut self, answer: &Said<T>) {
+    pub fn answer<T>(&mut self, answer: &FsResult<T>) {
         let noted = match answer {
             Ok(_) => self.text.push_str("  -> ok"),
             Err(Some(errno)) => {

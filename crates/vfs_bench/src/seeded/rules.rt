@@ -7,7 +7,7 @@
 
 ghost use Rattle.std.specs.Prelude.{◌≤◌, IfOk, vec_len};
 
-use crate::Said;
+use crate::FsResult;
 use bitflags::Flags;
 use std::alloc::Global;
 use std::time::Duration;
@@ -126,7 +126,7 @@ pub fn statistics(seed: u32) -> Statvfs64 {
 }
 
 /// `count` bytes that count up from the seed, by 256. ENOMEM where there is no memory for them.
-pub fn bytes(alloc: Global, seed: u32, count: u32) -> Said<Vec<u8>>
+pub fn bytes(alloc: Global, seed: u32, count: u32) -> FsResult<Vec<u8>>
     ensures { IfOk result (λ bytes. vec_len bytes ≤ count) }
 {
     let mut bytes = Vec::new(alloc);

@@ -1,6 +1,6 @@
 //! Answers that the input tells, for the calls of the requests that follow.
 
-use crate::Said;
+use crate::FsResult;
 use crate::directory::{ScriptDirectory, ScriptItem};
 use crate::seeded::rules::{entry, opening};
 use bitflags::Flags;
@@ -27,7 +27,7 @@ pub enum Told {
 
 impl Told {
     /// What an answer hangs on that is told, or the fault.
-    pub fn source(&self) -> Said<Source> {
+    pub fn source(&self) -> FsResult<Source> {
         match self {
             Told::Value(value) => Ok(Source::Told(*value)),
             Told::Fault(fault) => Err(*fault),

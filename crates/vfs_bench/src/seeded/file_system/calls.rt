@@ -4,7 +4,7 @@ ghost use Rattle.vfs_files.specs.Calls.{kind_of};
 ghost use Rattle.vfs_files.specs.CallValue.{call_of, IsOfKind};
 
 use super::SeededFs;
-use crate::Said;
+use crate::FsResult;
 use crate::seeded::listing::DirectoryItems;
 use crate::seeded::rules::statistics;
 use bitflags::Flags;
@@ -16,7 +16,7 @@ use vfs_flags::Errno;
 
 impl SeededFs<'_> {
     // What a call answers.
-    fn given(&self, asked: &CallValue<'_>) -> Said<Given>
+    fn given(&self, asked: &CallValue<'_>) -> FsResult<Given>
         ensures { IsOfKind (kind_of (call_of asked.now)) result }
     {
         match asked {
@@ -79,7 +79,7 @@ impl PartialFileSystem for SeededFs<'_> {
 
     ghost permits = { λ old call handed new. ⊤ };
 
-    fn call(&mut self, asked: CallValue<'_>) -> Said<Given> {
+    fn call(&mut self, asked: CallValue<'_>) -> FsResult<Given> {
         self.notes.note_call(&asked);
         let answer = self.given(&asked);
         if !matches!(asked.kind(), AnswerKind::Quiet) {
@@ -88,7 +88,7 @@ impl PartialFileSystem for SeededFs<'_> {
         answer
     }
 
-    fn read_data<W: ZeroCopyWriter>(&mut self, asked: ReadValue, w: &mut W) -> Said<usize> {
+    fn read_data<W: ZeroCopyWriter>(&mut self, asked: ReadValue, w: &mut W) -> FsResult<usize> {
         self.notes.note_read(
             &asked.ctx,
             asked.inode,
@@ -103,7 +103,7 @@ impl PartialFileSystem for SeededFs<'_> {
         answer
     }
 
-    fn write_data<R: ZeroCopyReader>(&mut self, asked: WriteValue, r: &mut R) -> Said<u32> {
+    fn write_data<R: ZeroCopyReader>(&mut self, asked: WriteValue, r: &mut R) -> FsResult<u32> {
         self.notes.begin_transfer(
             "write",
             &asked.ctx,
@@ -133,7 +133,7 @@ impl PartialFileSystem for SeededFs<'_> {
         handle: u64,
         size: u32,
         offset: u64,
-    ) -> Said<DirectoryItems> {
+    ) -> FsResult<DirectoryItems> {
         self.notes.note_readdir(&ctx, inode, handle, size, offset);
         let answer = self.listing(offset);
         self.notes.note_listed(&answer);

@@ -1,7 +1,7 @@
 //! The line of each answer.
 
 use super::Notes;
-use crate::Said;
+use crate::FsResult;
 use crate::seeded::listing::DirectoryItems;
 use bitflags::Flags;
 use vfs_files::Given;
@@ -9,7 +9,7 @@ use vfs_flags::OpenOptions;
 
 impl Notes {
     /// Notes an answer, and the numbers that it shows.
-    pub fn note_answer(&mut self, answer: &Said<Given>) {
+    pub fn note_answer(&mut self, answer: &FsResult<Given>) {
         self.answer(answer);
         match answer {
             Ok(Given::Options(want)) => self.bits("want", want.bits()),
@@ -33,7 +33,7 @@ impl Notes {
     }
 
     /// Notes an answer that says how many bytes were moved.
-    pub fn note_moved(&mut self, answer: &Said<usize>) {
+    pub fn note_moved(&mut self, answer: &FsResult<usize>) {
         self.answer(answer);
         if let Ok(count) = answer {
             self.number("count", *count as u64);
@@ -42,7 +42,7 @@ impl Notes {
     }
 
     /// Notes the answer to a READDIR.
-    pub fn note_listed(&mut self, answer: &Said<DirectoryItems>) {
+    pub fn note_listed(&mut self, answer: &FsResult<DirectoryItems>) {
         self.answer(answer);
         self.end();
     }
