@@ -1,6 +1,7 @@
 #!/usr/bin/env bash
 # Counts the instructions that the C interface (include/nizwarf.h) takes to decode a request, and to decode it and encode its
-# reply, for some requests in one segment: a row of a table for each class.
+# reply, for some requests in one segment: a row of a table for each class. The columns with -flto are those of a program
+# that is linked with the library statically and by link-time optimisation, which inlines the library's C files.
 #
 # Usage: tools/measure/codec-speed.sh [--unproved]
 # It requires the proved library (`rt lib` in crates/nizwarf_codec). With --unproved it measures one without a proof where
@@ -22,25 +23,29 @@ find_library nizwarf_codec
 folder=$(mktemp -d)
 trap 'rm -rf "$folder"' EXIT
 program=$folder/codec_speed
-cc -std=c11 -O2 -Wall -Wextra -Werror -I "$here/include" -o "$program" "$here/tools/measure/codec_speed.c" "${library[@]}"
+for flags in "" -flto; do
+    cc -std=c11 -O2 $flags -Wall -Wextra -Werror -I "$here/include" -o "$program$flags" "$here/tools/measure/codec_speed.c" \
+        "${library[@]}"
+done
 
-# Prints how many instructions a run takes: counted WORD.. Valgrind counts `rep movsb`, by which glibc copies some KiB and
+# Prints how many instructions a run takes: counted PROGRAM WORD.. Valgrind counts `rep movsb`, by which glibc copies some KiB and
 # more, once for each byte, so glibc copies by vectors here.
 counted() {
     GLIBC_TUNABLES=glibc.cpu.x86_rep_movsb_threshold=1000000000 valgrind --tool=callgrind \
-        --callgrind-out-file="$folder/counted" "$program" "$@" 2>&1 | sed -n 's/.*Collected : \([0-9]*\).*/\1/p'
+        --callgrind-out-file="$folder/counted" "$@" 2>&1 | sed -n 's/.*Collected : \([0-9]*\).*/\1/p'
 }
 
-# Prints those of one request: instructions CLASS [ask]
+# Prints those of one request: instructions PROGRAM CLASS [ask]
 instructions() {
-    echo $((($(counted "$1" 300 "${@:2}") - $(counted "$1" 100 "${@:2}")) / 200))
+    echo $((($(counted "$1" "$2" 300 "${@:3}") - $(counted "$1" "$2" 100 "${@:3}")) / 200))
 }
 
 echo "Measured at commit $(git -C "$here" describe --always --dirty --exclude '*'), $(library_kind nizwarf_codec)."
 echo
-echo "| Request | decode | decode and encode |"
-echo "|---|---|---|"
+echo "| Request | decode | decode and encode | decode, -flto | decode and encode, -flto |"
+echo "|---|---|---|---|---|"
 # (without an argument it lists its classes, and fails)
 for class in $("$program" || true); do
-    echo "| $class | $(instructions "$class" ask) | $(instructions "$class") |"
+    echo "| $class | $(instructions "$program" "$class" ask) | $(instructions "$program" "$class")" \
+        "| $(instructions "$program-flto" "$class" ask) | $(instructions "$program-flto" "$class") |"
 done
