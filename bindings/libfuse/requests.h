@@ -1,49 +1,54 @@
-/* Requests. The codec reads each, and tells its call; what it refuses comes to no file system. */
+/* Requests. The codec decodes each message into a call. A message that it rejects does not reach the file
+ * system. */
 
-/* All rows are offered: a call that the file system doesn't have is answered ENOSYS, as libfuse does. */
-#define DOOR_OFFERS                                                                                    \
+/* All optional operations are enabled, because libfuse replies ENOSYS to those that a file system does not
+ * have. */
+#define CODEC_FEATURES                                                                                 \
 	(NIZWARF_FEATURE_LOCKS | NIZWARF_FEATURE_BMAP | NIZWARF_FEATURE_IOCTL | NIZWARF_FEATURE_POLL | \
 	 NIZWARF_FEATURE_STATX | NIZWARF_FEATURE_COPY_64 | NIZWARF_FEATURE_TMPFILE |                   \
 	 NIZWARF_FEATURE_NOTIFY_REPLY)
 
 enum {
-	/* The longest reply of a request that needs no file system. */
-	LONGEST_FINISHED = 80, /* bytes: INIT's, where a newer version is refused */
-	/* As much of a request as is read out of a pipe before it's known whether its data may stay there. */
+	/* The longest reply to a request that needs no file system. */
+	LONGEST_FINISHED = 80, /* bytes: that of INIT to a later major version */
+	/* The number of bytes that are read from a pipe before it is known whether the data may stay
+	 * there. */
 	WRITE_FRONT = sizeof(struct fuse_in_header) + sizeof(struct fuse_write_in),
-	ABSENT = 1 << 16,     /* bytes of a segment that stands for data in a pipe */
-	MOST_SEGMENTS = 64,   /* so data of 4 MiB, less one segment */
-	BIT_KILLPRIV_V2 = 28, /* of INIT's options */
+	PLACEHOLDER = 1 << 16, /* bytes of a segment that stands for data in a pipe */
+	MAX_SEGMENTS = 64,     /* enough for 4 MiB of data, less one segment */
+	BIT_KILLPRIV_V2 = 28,  /* in the options of INIT */
 };
 
-/* A request as it came, and what of it is in memory: all of it, but for data that stay in a pipe. `in` is aligned as
- * a header, and `len` may be less than one: nothing is read before that is looked at. */
+/* A message, and the part of it that is in memory: all, except data that stay in a pipe. `in` is aligned for
+ * a header. `len` may be less than the size of a header, so it must be checked before `in` is read. */
 struct codec_message {
-	const struct fuse_buf *buf; /* libfuse's: memory, or a pipe; `size` bytes in all */
+	const struct fuse_buf *buf; /* libfuse's buffer, in memory or in a pipe: `size` bytes in all */
 	const char *in;
 	size_t len;
 };
 
-/* In place of data that are in a pipe: the codec asks their length alone. */
-static const char codec_absent[ABSENT];
+/* Stands for data in a pipe, because the codec only needs their length. */
+static const char codec_placeholder[PLACEHOLDER];
 
-/* Linux asks no such call again, of most kinds, once it had ENOSYS. */
-#define ABSENT_OP(req) ((void)fuse_reply_err(req, ENOSYS))
-/* Calls a function of the file system, if it has that. */
+/* For most operations Linux remembers ENOSYS, and does not send them again. */
+#define REPLY_ENOSYS(req) ((void)fuse_reply_err(req, ENOSYS))
+/* Calls a function of the file system, or replies ENOSYS if it is NULL. */
 #define CALL(req, function, ...) \
-	((req)->se->op.function ? (req)->se->op.function(req, __VA_ARGS__) : ABSENT_OP(req))
+	((req)->se->op.function ? (req)->se->op.function(req, __VA_ARGS__) : REPLY_ENOSYS(req))
 
-/* Makes a call of the file system, by which the request ends, now or later, maybe on another thread: so after it
- * neither the request nor `c`, which is in it, is looked at. The message stays until it comes back. */
+/* Makes a call of the file system, which ends the request at once or later, maybe on another thread. So
+ * neither the request nor `c`, which is a part of it, may be used after the function of the file system was
+ * called. The message is valid until the codec_call returns. */
 typedef void codec_call(fuse_req_t req, const nizwarf_call *c, const struct codec_message *m);
 
-/* Where a part of the message is that the codec said is there. A name ends with a 0 there. */
+/* Returns a part of the message. The codec has checked the range, and that a name ends with a NUL. */
 static const char *bytes_at(const struct codec_message *m, nizwarf_range range)
 {
 	return m->in + range.at;
 }
 
-/* A handle, with what else a call tells of it. (what the call doesn't tell is 0, as the file system expects) */
+/* Returns the handle of a call as libfuse's struct, whose other fields must be 0 if the call does not have
+ * them. */
 static struct fuse_file_info file_of(const nizwarf_call *c)
 {
 	struct fuse_file_info file;
@@ -53,9 +58,9 @@ static struct fuse_file_info file_of(const nizwarf_call *c)
 	return file;
 }
 
-/* Whether Linux leaves it to the file system to take set-user-ID bits from a file that is written or cut. (Without
- * the option that isn't said.) */
-static void kill_privileges(struct fuse_file_info *file, const nizwarf_call *c)
+/* Sets whether the file system must clear set-user-ID bits of a file that is written or truncated. Linux only
+ * requests this if HANDLE_KILLPRIV_V2 was negotiated. */
+static void set_kill_suidgid(struct fuse_file_info *file, const nizwarf_call *c)
 {
 #ifdef HAVE_KILL_SUIDGID
 	if (c->options >> BIT_KILLPRIV_V2 & 1)
@@ -65,9 +70,9 @@ static void kill_privileges(struct fuse_file_info *file, const nizwarf_call *c)
 #endif
 }
 
-/* ---- Calls of which the file system's function is handed what the codec tells, and no more ----------- */
+/* ---- Calls whose fields are passed as they are --------------------------------------------------- */
 
-/* The call by the function of this name: what is done first, and its arguments after the node. */
+/* Defines the function for a call: the statement that it begins with, and the arguments after the node. */
 #define ON(name, first, ...)                                                                        \
 	static void on_##name(fuse_req_t req, const nizwarf_call *c, const struct codec_message *m) \
 	{                                                                                           \
@@ -79,52 +84,52 @@ static void kill_privileges(struct fuse_file_info *file, const nizwarf_call *c)
 /* clang-format off */
 
 #define NOTHING (void)0
-#define ITS_FILE struct fuse_file_info file = file_of(c)
-/* (of what makes a file libfuse tells the umask by the context, and not as an argument) */
-#define ITS_UMASK req->ctx.umask = c->umask
-/* (NULL: the kernel asks by the node, and not by an open file) */
+#define FILE_INFO struct fuse_file_info file = file_of(c)
+/* libfuse passes the umask in the context, and not as an argument. */
+#define SET_UMASK req->ctx.umask = c->umask
+/* NULL if the request names the node alone, and no open file. */
 #define FILE_IF_OPEN (c->has & NIZWARF_HAS_HANDLE ? &file : NULL)
 
 ON(lookup, NOTHING, bytes_at(m, c->name))
-ON(mknod, ITS_UMASK, bytes_at(m, c->name), c->mode, c->rdev)
-ON(mkdir, ITS_UMASK, bytes_at(m, c->name), c->mode)
+ON(mknod, SET_UMASK, bytes_at(m, c->name), c->mode, c->rdev)
+ON(mkdir, SET_UMASK, bytes_at(m, c->name), c->mode)
 ON(unlink, NOTHING, bytes_at(m, c->name))
 ON(rmdir, NOTHING, bytes_at(m, c->name))
 ON(rename, NOTHING, bytes_at(m, c->name), c->other_node, bytes_at(m, c->other_name), c->flags)
-/* (the codec's `node` is the file that gets one more name) */
+/* `node` is the file that gets another name. */
 ON(link, NOTHING, c->other_node, bytes_at(m, c->name))
-ON(getattr, ITS_FILE, FILE_IF_OPEN)
+ON(getattr, FILE_INFO, FILE_IF_OPEN)
 ON(access, NOTHING, (int)nizwarf_access_mask(c))
 ON(setxattr, NOTHING, bytes_at(m, c->name), bytes_at(m, c->data), c->data.len, (int)c->flags)
 ON(getxattr, NOTHING, bytes_at(m, c->name), c->size)
 ON(listxattr, NOTHING, c->size)
 ON(removexattr, NOTHING, bytes_at(m, c->name))
 #ifdef HAVE_STATX_OP
-ON(statx, ITS_FILE, (int)c->flags, (int)nizwarf_statx_mask(c), FILE_IF_OPEN)
+ON(statx, FILE_INFO, (int)c->flags, (int)nizwarf_statx_mask(c), FILE_IF_OPEN)
 #endif
-ON(fsync, ITS_FILE, (c->has & NIZWARF_FSYNC_FDATASYNC) != 0, &file)
-ON(fsyncdir, ITS_FILE, (c->has & NIZWARF_FSYNC_FDATASYNC) != 0, &file)
-ON(fallocate, ITS_FILE, (int)c->mode, (off_t)c->offset, (off_t)c->length, &file)
-ON(lseek, ITS_FILE, (off_t)c->offset, (int)nizwarf_lseek_whence(c), &file)
+ON(fsync, FILE_INFO, (c->has & NIZWARF_FSYNC_FDATASYNC) != 0, &file)
+ON(fsyncdir, FILE_INFO, (c->has & NIZWARF_FSYNC_FDATASYNC) != 0, &file)
+ON(fallocate, FILE_INFO, (int)c->mode, (off_t)c->offset, (off_t)c->length, &file)
+ON(lseek, FILE_INFO, (off_t)c->offset, (int)nizwarf_lseek_whence(c), &file)
 ON(bmap, NOTHING, c->size, c->offset)
 
 /* clang-format on */
 
-/* ---- Names ------------------------------------------------------------------------------------------ */
+/* ---- Names --------------------------------------------------------------------------------------- */
 
 static void on_symlink(fuse_req_t req, const nizwarf_call *c, const struct codec_message *m)
 {
 	CALL(req, symlink, bytes_at(m, nizwarf_symlink_text(c)), c->node, bytes_at(m, c->name));
 }
 
-/* The flags of open(2) are the file's before it is open, as in libfuse: with them, and no handle yet. */
+/* As in libfuse, a file that is to be opened has the flags of open(2), and no handle yet. */
 static void on_create(fuse_req_t req, const nizwarf_call *c, const struct codec_message *m)
 {
 	struct fuse_file_info file = file_of(c);
 
 	file.flags = (int)c->flags;
 	req->ctx.umask = c->umask;
-	kill_privileges(&file, c);
+	set_kill_suidgid(&file, c);
 	CALL(req, create, c->node, bytes_at(m, c->name), c->mode, &file);
 }
 
@@ -143,15 +148,13 @@ static void on_tmpfile(fuse_req_t req, const nizwarf_call *c, const struct codec
 static void on_readlink(fuse_req_t req, const nizwarf_call *c, const struct codec_message *m)
 {
 	(void)m;
-	if (req->se->op.readlink) /* (CALL wants an argument more) */
-		req->se->op.readlink(req, c->node);
-	else
-		ABSENT_OP(req);
+	CALL(req, readlink, c->node);
 }
 
-/* ---- Lookups that are given back --------------------------------------------------------------------- */
+/* ---- Forgotten lookups --------------------------------------------------------------------------- */
 
-/* A FORGET has no reply, also where nobody serves it: fuse_reply_none() ends the request alone. */
+/* A FORGET has no reply, even if the file system has no function for it. fuse_reply_none() then ends the
+ * request. */
 static void on_forget(fuse_req_t req, const nizwarf_call *c, const struct codec_message *m)
 {
 	(void)m;
@@ -161,8 +164,9 @@ static void on_forget(fuse_req_t req, const nizwarf_call *c, const struct codec_
 		fuse_reply_none(req);
 }
 
-/* The file system ends a request with each call. So one stands for all of them: that wants no memory. With
- * forget_multi it gets all pairs at once, where they lie: both are laid out as libfuse's. */
+/* forget_multi receives all pairs at once and in place, because the message has the layout of libfuse's
+ * struct. `forget` is called for each pair and ends a request each time. All these calls share one request,
+ * because a request for each would need memory. */
 static void on_batch_forget(fuse_req_t req, const nizwarf_call *c, const struct codec_message *m)
 {
 	const uint64_t pairs = nizwarf_batch_forget_pairs(c);
@@ -176,16 +180,16 @@ static void on_batch_forget(fuse_req_t req, const nizwarf_call *c, const struct 
 		return;
 	}
 	if (se->op.forget) {
-		/* (no reply goes there) */
+		/* No reply is sent, so the channel is no longer needed. */
 		fuse_chan_put(req->ch);
 		req->ch = NULL;
-		/* (each call may end it on a thread of its own: so its end counts, under the session's lock) */
-		own_of(req)->known = DOOR_KNOWN;
-		/* (one of its own, which goes last: so it isn't freed before all were told; a message has fewer than
-		 * 2^31) */
+		/* The file system may end the request on several threads, so references must be counted under
+		 * the lock. */
+		codec_req_of(req)->state = CODEC_SHARED;
+		/* This function's own reference is released last, so that the request stays valid until the
+		 * last call. A message has fewer than 2^31 pairs. */
 		req->REQ_COUNT += (int)pairs;
 		for (i = 0; i < pairs; i++) {
-			/* (read while the message is there: the file system has the numbers alone) */
 			memcpy(&one, at + i * sizeof(one), sizeof(one));
 			se->op.forget(req, one.ino, one.nlookup);
 		}
@@ -193,11 +197,12 @@ static void on_batch_forget(fuse_req_t req, const nizwarf_call *c, const struct 
 	fuse_reply_none(req);
 }
 
-/* ---- Attributes -------------------------------------------------------------------------------------- */
+/* ---- Attributes ---------------------------------------------------------------------------------- */
 
 static void on_setattr(fuse_req_t req, const nizwarf_call *c, const struct codec_message *m)
 {
-	/* (those that libfuse has a name for: Linux's others, as of a handle, are told otherwise) */
+	/* The fields that libfuse defines. Linux has others, such as one for the handle, which libfuse passes
+	 * otherwise. */
 	const int fields = FUSE_SET_ATTR_MODE | FUSE_SET_ATTR_UID | FUSE_SET_ATTR_GID | FUSE_SET_ATTR_SIZE |
 			   FUSE_SET_ATTR_ATIME | FUSE_SET_ATTR_MTIME | FUSE_SET_ATTR_KILL_SUID |
 			   FUSE_SET_ATTR_KILL_SGID | FUSE_SET_ATTR_ATIME_NOW | FUSE_SET_ATTR_MTIME_NOW |
@@ -220,34 +225,34 @@ static void on_setattr(fuse_req_t req, const nizwarf_call *c, const struct codec
 	CALL(req, setattr, c->node, &st, (int)nizwarf_setattr_fields(c) & fields, FILE_IF_OPEN);
 }
 
-/* df(1) works for a file system that doesn't say how large it is: so there is an answer, as libfuse's. */
+/* Without a function the reply is libfuse's, so that df(1) works for each file system. */
 static void on_statfs(fuse_req_t req, const nizwarf_call *c, const struct codec_message *m)
 {
-	const struct statvfs none = { .f_namemax = 255, .f_bsize = 512 }; /* what libfuse says */
+	const struct statvfs unknown = { .f_namemax = 255, .f_bsize = 512 };
 
 	(void)m;
 	if (req->se->op.statfs)
 		req->se->op.statfs(req, c->node);
 	else
-		fuse_reply_statfs(req, &none);
+		fuse_reply_statfs(req, &unknown);
 }
 
-/* ---- Files ------------------------------------------------------------------------------------------- */
+/* ---- Files --------------------------------------------------------------------------------------- */
 
-/* An OPEN or an OPENDIR: one that a file system doesn't have is done, unless it asked to be spared of it. ENOSYS,
- * where it asked for that, is Linux's sign to send no such request again. */
-static void open_by(fuse_req_t req, const nizwarf_call *c, uint64_t spared,
-		    void (*function)(fuse_req_t, fuse_ino_t, struct fuse_file_info *))
+/* Serves an OPEN or an OPENDIR. Without a function it succeeds, unless the file system has requested
+ * `no_support`: then it fails with ENOSYS, because Linux sends no more such requests after that. */
+static void call_open(fuse_req_t req, const nizwarf_call *c, uint64_t no_support,
+		      void (*function)(fuse_req_t, fuse_ino_t, struct fuse_file_info *))
 {
 	struct fuse_file_info file = file_of(c);
 
 	file.flags = (int)c->flags;
 	if (c->opcode == NIZWARF_OPEN)
-		kill_privileges(&file, c);
+		set_kill_suidgid(&file, c);
 	if (function)
 		function(req, c->node, &file);
-	else if (WANTED(req->se) & spared)
-		ABSENT_OP(req);
+	else if (WANTED(req->se) & no_support)
+		REPLY_ENOSYS(req);
 	else
 		fuse_reply_open(req, &file);
 }
@@ -255,16 +260,16 @@ static void open_by(fuse_req_t req, const nizwarf_call *c, uint64_t spared,
 static void on_open(fuse_req_t req, const nizwarf_call *c, const struct codec_message *m)
 {
 	(void)m;
-	open_by(req, c, FUSE_CAP_NO_OPEN_SUPPORT, req->se->op.open);
+	call_open(req, c, FUSE_CAP_NO_OPEN_SUPPORT, req->se->op.open);
 }
 
 static void on_opendir(fuse_req_t req, const nizwarf_call *c, const struct codec_message *m)
 {
 	(void)m;
-	open_by(req, c, FUSE_CAP_NO_OPENDIR_SUPPORT, req->se->op.opendir);
+	call_open(req, c, FUSE_CAP_NO_OPENDIR_SUPPORT, req->se->op.opendir);
 }
 
-/* (the owner is of use to who locks files itself: the kernel names it if there are locks) */
+/* The lock owner is for a file system that implements locks. The kernel only sends it then. */
 static void on_read(fuse_req_t req, const nizwarf_call *c, const struct codec_message *m)
 {
 	struct fuse_file_info file = file_of(c);
@@ -275,28 +280,28 @@ static void on_read(fuse_req_t req, const nizwarf_call *c, const struct codec_me
 	CALL(req, read, c->node, c->size, (off_t)c->offset, &file);
 }
 
-/* Data that are in a pipe stay there: the file system moves them on. The function reads as many bytes as it wants:
- * what it leaves in the pipe would be taken for the next message, and so is taken out after it. */
+/* Calls write_buf. Data in a pipe stay there, so that the file system can move them. Bytes that it leaves in
+ * the pipe must be removed, because they would be read as the next message. */
 static void write_buffers(fuse_req_t req, const nizwarf_call *c, const struct codec_message *m,
 			  struct fuse_file_info *file)
 {
 	struct fuse_bufvec bufv = { .count = 1, .buf[0] = *m->buf };
-	const size_t in_pipe = m->buf->size - m->len, asked = c->size;
+	const size_t in_pipe = m->buf->size - m->len, size = c->size;
 	struct fuse_session *se = req->se;
 
-	bufv.buf[0].size = asked;
+	bufv.buf[0].size = size;
 	if (!in_pipe) {
-		/* (a message that came by a pipe, and is in memory now, says still that it is in one) */
+		/* A message that was read from a pipe into memory still has the flags of the pipe. */
 		bufv.buf[0].flags = 0;
 		bufv.buf[0].mem = (char *)(uintptr_t)bytes_at(m, c->data);
 	}
 	se->op.write_buf(req, c->node, &bufv, (off_t)c->offset, file);
-	/* (`se`, not the request's: that has ended) */
-	if (in_pipe && (bufv.idx < bufv.count || in_pipe > asked))
+	/* `se` must be used here, because the request has ended. */
+	if (in_pipe && (bufv.idx < bufv.count || in_pipe > size))
 		fuse_ll_clear_pipe(se);
 }
 
-/* Data that are in memory, for a program with `write` or `write_buf`. */
+/* Serves a WRITE by `write_buf` or `write`. */
 static void on_write(fuse_req_t req, const nizwarf_call *c, const struct codec_message *m)
 {
 	struct fuse_file_info file = file_of(c);
@@ -305,8 +310,9 @@ static void on_write(fuse_req_t req, const nizwarf_call *c, const struct codec_m
 	file.flags = (int)c->flags;
 	file.lock_owner = c->lock_owner;
 	file.writepage = (c->has & NIZWARF_WRITE_CACHE) != 0;
-	kill_privileges(&file, c);
-	/* (libfuse would read after the message, where the kernel lies) */
+	set_kill_suidgid(&file, c);
+	/* The kernel sends as many bytes as the record says. Another client may not, and then libfuse would
+	 * read after the end of the message. */
 	if (c->data.len < c->size) {
 		fuse_reply_err(req, EIO);
 		if (m->len < m->buf->size)
@@ -323,14 +329,14 @@ static void on_flush(fuse_req_t req, const nizwarf_call *c, const struct codec_m
 	struct fuse_file_info file = file_of(c);
 
 	(void)m;
-	file.flush = 1; /* as libfuse says it of each FLUSH */
+	file.flush = 1; /* as libfuse sets it for each FLUSH */
 	file.lock_owner = c->lock_owner;
 	CALL(req, flush, c->node, &file);
 }
 
-/* A RELEASE or a RELEASEDIR: one that a file system doesn't have is done. */
-static void release_by(fuse_req_t req, const nizwarf_call *c,
-		       void (*function)(fuse_req_t, fuse_ino_t, struct fuse_file_info *))
+/* Serves a RELEASE or a RELEASEDIR. Without a function it succeeds. */
+static void call_release(fuse_req_t req, const nizwarf_call *c,
+			 void (*function)(fuse_req_t, fuse_ino_t, struct fuse_file_info *))
 {
 	struct fuse_file_info file = file_of(c);
 
@@ -347,16 +353,16 @@ static void release_by(fuse_req_t req, const nizwarf_call *c,
 static void on_release(fuse_req_t req, const nizwarf_call *c, const struct codec_message *m)
 {
 	(void)m;
-	release_by(req, c, req->se->op.release);
+	call_release(req, c, req->se->op.release);
 }
 
 static void on_releasedir(fuse_req_t req, const nizwarf_call *c, const struct codec_message *m)
 {
 	(void)m;
-	release_by(req, c, req->se->op.releasedir);
+	call_release(req, c, req->se->op.releasedir);
 }
 
-/* READDIR and READDIRPLUS are one call of the codec; a program may have either function without the
+/* The codec decodes READDIR and READDIRPLUS as one call. A program may have either function without the
  * other. */
 static void on_readdir(fuse_req_t req, const nizwarf_call *c, const struct codec_message *m)
 {
@@ -371,18 +377,18 @@ static void on_readdir(fuse_req_t req, const nizwarf_call *c, const struct codec
 
 static void on_copy(fuse_req_t req, const nizwarf_call *c, const struct codec_message *m)
 {
-	/* the most that COPY's reply can say, in whole pages */
+	/* the largest count that the reply to COPY can have, in whole pages */
 	const uint64_t most = c->opcode == NIZWARF_COPY ? 0xfffff000 : UINT64_MAX;
 	struct fuse_file_info from = file_of(c), to = file_of(c);
 
 	(void)m;
-	/* (the call's own numbers tell both files apart) */
+	/* The two files only differ in their handles here. */
 	to.fh = c->other_handle;
 #ifdef HAVE_COPY_64
 	req->flags.is_copy_file_range_64 = c->opcode == NIZWARF_COPY_64;
 #else
 	if (c->opcode == NIZWARF_COPY_64) {
-		ABSENT_OP(req);
+		REPLY_ENOSYS(req);
 		return;
 	}
 #endif
@@ -390,14 +396,15 @@ static void on_copy(fuse_req_t req, const nizwarf_call *c, const struct codec_me
 	     &to, c->length < most ? c->length : most, (int)nizwarf_copy_flags(c));
 }
 
-/* ---- Locks, and what devices do ----------------------------------------------------------------------- */
+/* ---- Locks and devices --------------------------------------------------------------------------- */
 
-/* libfuse's function makes a range of it, whose end 2^63 - 1 is the file's, and the kind as fcntl(2) has it. */
+/* Returns the lock as for fcntl(2). libfuse's function converts the type and the range, whose last byte is
+ * 2^63 - 1 if it ends with the file. */
 static struct flock lock_of(const nizwarf_call *c)
 {
-	const nizwarf_lock asked = nizwarf_lock_of(c);
+	const nizwarf_lock requested = nizwarf_lock_of(c);
 	struct fuse_file_lock record = {
-		.start = asked.start, .end = asked.end, .type = asked.type, .pid = asked.pid
+		.start = requested.start, .end = requested.end, .type = requested.type, .pid = requested.pid
 	};
 	struct flock lock;
 
@@ -415,7 +422,7 @@ static void on_getlk(fuse_req_t req, const nizwarf_call *c, const struct codec_m
 	CALL(req, getlk, c->node, &file, &lock);
 }
 
-/* SETLK and SETLKW, of fcntl(2) or of flock(2), which libfuse has in a function of its own. */
+/* Serves SETLK and SETLKW. libfuse has a separate function for the locks of flock(2). */
 static void on_setlk(fuse_req_t req, const nizwarf_call *c, const struct codec_message *m)
 {
 	const int waits = c->opcode == NIZWARF_SETLKW;
@@ -425,7 +432,6 @@ static void on_setlk(fuse_req_t req, const nizwarf_call *c, const struct codec_m
 
 	(void)m;
 	file.lock_owner = c->lock_owner;
-	/* (flock(2) locks go by the same opcode) */
 	if (!(c->has & NIZWARF_LK_FLOCK)) {
 		CALL(req, setlk, c->node, &file, &lock, waits);
 		return;
@@ -439,7 +445,8 @@ static void on_setlk(fuse_req_t req, const nizwarf_call *c, const struct codec_m
 	CALL(req, flock, c->node, &file, waits ? op : op | LOCK_NB);
 }
 
-/* Of a directory it's ENOTTY, unless the file system asked for those: so says libfuse. */
+/* For a directory the error is ENOTTY, as in libfuse, unless the file system has requested
+ * FUSE_CAP_IOCTL_DIR. */
 static void on_ioctl(fuse_req_t req, const nizwarf_call *c, const struct codec_message *m)
 {
 	const char *in = c->data.len ? bytes_at(m, c->data) : NULL;
@@ -452,7 +459,7 @@ static void on_ioctl(fuse_req_t req, const nizwarf_call *c, const struct codec_m
 		     (void *)(uintptr_t)nizwarf_ioctl_argument(c), &file, c->flags, in, c->data.len, c->size);
 }
 
-/* The handle is the file system's from then on, which ends it by fuse_pollhandle_destroy. */
+/* The file system must free the handle by fuse_pollhandle_destroy. */
 static void on_poll(fuse_req_t req, const nizwarf_call *c, const struct codec_message *m)
 {
 	struct fuse_file_info file = file_of(c);
@@ -472,33 +479,34 @@ static void on_poll(fuse_req_t req, const nizwarf_call *c, const struct codec_me
 	CALL(req, poll, c->node, &file, handle);
 }
 
-/* What a notice asked for has come. It may be in a pipe but for its front. The memory of whoever asked is theirs, or
- * libfuse's, and ends with its function. */
+/* Serves the reply to a notice that has requested cached data. All but its front may be in a pipe. `reply`
+ * frees the struct that it is called with. */
 static void on_notify_reply(fuse_req_t req, const nizwarf_call *c, const struct codec_message *m)
 {
 	const struct fuse_in_header *in = (const void *)m->in;
-	/* (`c` isn't looked at after the function: it ends the request) */
+	/* This must be read before `reply` is called, because `reply` ends the request. */
 	const int is_longer = m->buf->size - m->len > c->size;
 	struct fuse_session *se = req->se;
-	struct fuse_notify_req *asked;
+	struct fuse_notify_req *notify;
 	struct fuse_buf buf = *m->buf;
 
 	if (m->len == m->buf->size)
 		buf.flags &= ~FUSE_BUF_IS_FD;
 #ifndef HAVE_RETRIEVE_HEADER
-	/* (of others who asked takes the header off) */
+	/* In libfuse 3.14, `reply` subtracts the header. */
 	buf.size -= sizeof(*in);
 #endif
-	/* (taken off the list first, so that a second reply of that number finds none) */
+	/* The struct is removed from the list first, so that a second reply with its number does not find
+	 * it. */
 	pthread_mutex_lock(&se->lock);
-	for (asked = se->notify_list.next; asked != &se->notify_list; asked = asked->next)
-		if (asked->unique == c->unique) {
-			list_del_nreq(asked);
+	for (notify = se->notify_list.next; notify != &se->notify_list; notify = notify->next)
+		if (notify->unique == c->unique) {
+			list_del_nreq(notify);
 			break;
 		}
 	pthread_mutex_unlock(&se->lock);
-	if (asked != &se->notify_list) {
-		asked->reply(asked, req, c->node, in + 1, &buf);
+	if (notify != &se->notify_list) {
+		notify->reply(notify, req, c->node, in + 1, &buf);
 		if (is_longer)
 			fuse_ll_clear_pipe(se);
 		return;
@@ -508,29 +516,29 @@ static void on_notify_reply(fuse_req_t req, const nizwarf_call *c, const struct 
 		fuse_ll_clear_pipe(se);
 }
 
-/* ---- A session ---------------------------------------------------------------------------------------- */
+/* ---- The session --------------------------------------------------------------------------------- */
 
-/* What is agreed on is libfuse's to say: its own function reads the record, which the codec found whole. (a shorter
- * record of an older client is filled up by zeros, as libfuse reads all of it) */
+/* libfuse negotiates the options, so its own function reads the record, which the codec has checked. The
+ * record of an older client is padded with zeros, because libfuse reads the longest one. */
 static void on_init(fuse_req_t req, const nizwarf_call *c, const struct codec_message *m)
 {
 	_Alignas(uint64_t) char record[NIZWARF_INIT_FRONT] = { 0 };
 	const size_t len = m->len - sizeof(struct fuse_in_header);
 
 	memcpy(record, m->in + sizeof(struct fuse_in_header), len < sizeof(record) ? len : sizeof(record));
-	/* (a field that an INIT has no other use for, by which nizwarf.h keeps what is offered beside virtiofsd's
-	 * options) */
+	/* nizwarf_encode expects the client's extension options in this field, which an INIT does not use
+	 * otherwise. */
 	call_of(req)->other_offset = nizwarf_init_capable_at(
 		(const uint8_t *)m->in, m->len < NIZWARF_INIT_FRONT ? m->len : NIZWARF_INIT_FRONT);
-	/* (and the one by which it knows that tell_init's text is meant: nizwarf_init_takes_params) */
+	/* This makes nizwarf_encode read the text of read_init as a nizwarf_init_params. */
 	call_of(req)->more = 1;
 	do_init(req, c->node, record);
 }
 
 static void on_destroy(fuse_req_t req, const nizwarf_call *c, const struct codec_message *m)
 {
-	/* (as at the begin: a client may send an INIT again, which isn't the kernel) */
-	__atomic_store_n(&codec_of(req->se)->options, 0, __ATOMIC_RELAXED);
+	/* As at the beginning, because a client that is not a kernel may send another INIT. */
+	__atomic_store_n(&codec_session_of(req->se)->options, 0, __ATOMIC_RELAXED);
 	do_destroy(req, c->node, m->in + m->len);
 }
 
@@ -586,11 +594,11 @@ static codec_call *const codec_calls[] = {
 	[NIZWARF_COPY_64] = on_copy,
 };
 
-/* ---- From a message to its call ------------------------------------------------------------------------ */
+/* ---- Decoding ------------------------------------------------------------------------------------ */
 
-/* Moves bytes out of the pipe that a message is in: `pipe` goes on after them. 0: it failed. (There are as many: libfuse
- * counted them as it filled the pipe.) */
-static int take_bytes(struct fuse_bufvec *pipe, char *to, size_t len)
+/* Reads bytes from the pipe that has a message, and advances `pipe`. Returns 0 if that fails. There are
+ * enough bytes, because libfuse counted them when it filled the pipe. */
+static int read_pipe(struct fuse_bufvec *pipe, char *to, size_t len)
 {
 	struct fuse_bufvec memory = FUSE_BUFVEC_INIT(len);
 
@@ -598,8 +606,8 @@ static int take_bytes(struct fuse_bufvec *pipe, char *to, size_t len)
 	return fuse_ll_copy_from_pipe(&memory, pipe) >= 0;
 }
 
-/* Waits for memory where a file system is never told again what it is told now: of lookups that are given back.
- * 0: it's not so, or was waited for too long. */
+/* Waits for memory if a message forgets lookups, because the client does not send such a message again, and
+ * the file system would never learn of it. Returns 0 for any other message, and after too many calls. */
 static int wait_for_memory(const struct codec_message *m, int *tries)
 {
 	const struct fuse_in_header *in = (const void *)m->in;
@@ -608,129 +616,131 @@ static int wait_for_memory(const struct codec_message *m, int *tries)
 	       (in->opcode == FUSE_FORGET || in->opcode == FUSE_BATCH_FORGET) && codec_pause(tries);
 }
 
-/* Whether what follows the front of a message may stay in a pipe. The front is in memory. Of the data the codec is
- * told the length alone, by segments that have no bytes of it, and it reads none of them. */
-static int may_stay(const struct fuse_session *se, const struct codec_message *m)
+/* Returns whether the data after the front of a message may stay in a pipe. The front must be in memory. The
+ * codec receives segments of placeholders for the data, of which it only uses the length. */
+static int may_stay_in_pipe(const struct fuse_session *se, const struct codec_message *m)
 {
 	const struct fuse_in_header *in = (const void *)m->in;
 
-	if (m->len < sizeof(*in) || m->buf->size - m->len > (size_t)(MOST_SEGMENTS - 1) * ABSENT)
+	if (m->len < sizeof(*in) || m->buf->size - m->len > (size_t)(MAX_SEGMENTS - 1) * PLACEHOLDER)
 		return 0;
 	return (in->opcode == FUSE_WRITE && se->op.write_buf) || in->opcode == FUSE_NOTIFY_REPLY;
 }
 
-/* Takes of a message that is in a pipe into memory what the codec is to read: its front, or all, which is to be freed.
- * 0: the message is lost. The front is `WRITE_FRONT` bytes, or all if that is less: it has the header, the record of
- * a WRITE and that of a NOTIFY_REPLY. */
-static int take_message(struct fuse_session *se, struct codec_message *m, char *front, char **whole)
+/* Reads a message from a pipe: its front, or all of it into `*whole`, which the caller must free. Returns 0
+ * if the message is lost. The front has WRITE_FRONT bytes or the whole message, if that is shorter. This
+ * includes the header and the record of a WRITE or a NOTIFY_REPLY. */
+static int read_message(struct fuse_session *se, struct codec_message *m, char *front, char **whole)
 {
 	struct fuse_bufvec pipe = { .count = 1, .buf[0] = *m->buf };
 	const size_t size = m->buf->size, len = size < WRITE_FRONT ? size : WRITE_FRONT;
 	int tries = 0;
 
-	/* (also where it's lost: an error is told by the header, if that came) */
+	/* These must be set even if the message is lost, because the error is replied by its header. */
 	m->in = front;
 	m->len = 0;
-	if (!take_bytes(&pipe, front, len))
+	if (!read_pipe(&pipe, front, len))
 		return 0;
 	m->len = len;
-	if (len == size || may_stay(se, m))
+	if (len == size || may_stay_in_pipe(se, m))
 		return 1;
 	do
 		*whole = malloc(size);
-	/* (the header, which the front has, says what the message is) */
+	/* The front has the header, which wait_for_memory reads. */
 	while (!*whole && wait_for_memory(m, &tries));
-	if (!*whole || !take_bytes(&pipe, *whole + len, size - len))
+	if (!*whole || !read_pipe(&pipe, *whole + len, size - len))
 		return 0;
-	/* (last, so that nobody looks at a message that is there in part) */
+	/* Only now, so that an incomplete message is never used. */
 	memcpy(*whole, front, len);
 	m->in = *whole;
 	m->len = size;
 	return 1;
 }
 
-/* Whether a request is of a row that is offered: of no other one the offers are looked at. What is shorter than a
- * header is taken for one, since the codec refuses it anyhow. An opcode of 64 and more is none. */
-static inline int is_row(const struct codec_message *m)
+/* Returns whether a request is an optional operation, because the codec uses the features for no others. A
+ * message that is shorter than a header counts as one, because the codec rejects it in any case. Opcodes from
+ * 64 on are none. */
+static inline int is_optional(const struct codec_message *m)
 {
-	const uint64_t rows = UINT64_C(1) << FUSE_GETLK | UINT64_C(1) << FUSE_SETLK |
-			      UINT64_C(1) << FUSE_SETLKW | UINT64_C(1) << FUSE_BMAP |
-			      UINT64_C(1) << FUSE_IOCTL | UINT64_C(1) << FUSE_POLL |
-			      UINT64_C(1) << FUSE_NOTIFY_REPLY | UINT64_C(1) << NIZWARF_TMPFILE |
-			      UINT64_C(1) << NIZWARF_STATX | UINT64_C(1) << NIZWARF_COPY_64;
+	const uint64_t optional = UINT64_C(1) << FUSE_GETLK | UINT64_C(1) << FUSE_SETLK |
+				  UINT64_C(1) << FUSE_SETLKW | UINT64_C(1) << FUSE_BMAP |
+				  UINT64_C(1) << FUSE_IOCTL | UINT64_C(1) << FUSE_POLL |
+				  UINT64_C(1) << FUSE_NOTIFY_REPLY | UINT64_C(1) << NIZWARF_TMPFILE |
+				  UINT64_C(1) << NIZWARF_STATX | UINT64_C(1) << NIZWARF_COPY_64;
 	const struct fuse_in_header *in = (const void *)m->in;
 
-	return m->len < sizeof(*in) || (in->opcode < 64 && rows >> in->opcode & 1);
+	return m->len < sizeof(*in) || (in->opcode < 64 && optional >> in->opcode & 1);
 }
 
-/* Asks the codec for the call of a message that is of a row, or has data in a pipe. */
-static __attribute__((noinline)) int32_t ask_further(struct codec_thread *t, const nizwarf_session *session,
-						     size_t room, const struct codec_message *m,
-						     nizwarf_call *call, nizwarf_result *result)
+/* Decodes a message that is an optional operation, or has data in a pipe. */
+static __attribute__((noinline)) int32_t decode_parts(struct codec_thread *t, const nizwarf_session *session,
+						      size_t reply_size, const struct codec_message *m,
+						      nizwarf_call *call, nizwarf_result *result)
 {
-	struct iovec segments[MOST_SEGMENTS];
+	struct iovec segments[MAX_SEGMENTS];
 	size_t left = m->buf->size - m->len, count = 1;
 
 	segments[0].iov_base = m->in;
 	segments[0].iov_len = m->len;
 	for (; left; left -= segments[count++].iov_len) {
-		/* (the same bytes again and again: nobody reads them) */
-		segments[count].iov_base = codec_absent;
-		segments[count].iov_len = left < ABSENT ? left : ABSENT;
+		/* All segments may be the same, because their bytes are not read. */
+		segments[count].iov_base = codec_placeholder;
+		segments[count].iov_len = left < PLACEHOLDER ? left : PLACEHOLDER;
 	}
-	return nizwarf_decode_at(&t->slot, session, is_row(m) ? DOOR_OFFERS : 0, segments, count, room, call,
-				 result);
+	return nizwarf_decode_at(&t->scratch, session, is_optional(m) ? CODEC_FEATURES : 0, segments, count,
+				 reply_size, call, result);
 }
 
-/* How much room the codec is said to have. A slot keeps as much memory for each answer, but of a READ a header's: so it's
- * no more than a reply without a text takes, or than a directory is asked for. In bytes. */
-static inline size_t room_for(const nizwarf_session *session, const struct codec_message *m)
+/* Returns the size of the reply buffer that a message is decoded with, in bytes. The scratch memory grows to
+ * this size, unless the message is a READ. So the size is that of the largest reply without a text, and for a
+ * listing the requested size in addition. */
+static inline size_t reply_size_for(const nizwarf_session *session, const struct codec_message *m)
 {
-	/* (no overflow: 32 bits and 4096) */
+	/* This cannot overflow, because it is the sum of 32 bits and 4096. */
 	const size_t most = session->max_buffer + FUSE_BUFFER_HEADER_SIZE;
 	const struct fuse_in_header *in = (const void *)m->in;
 	uint32_t size;
 
 	if (m->len < sizeof(*in) + sizeof(struct fuse_read_in))
-		return SMALL_ROOM;
+		return SMALL_REPLY;
 	if (in->opcode == FUSE_READ)
 		return most;
 	if (in->opcode != FUSE_READDIR && in->opcode != FUSE_READDIRPLUS)
-		return SMALL_ROOM;
-	/* (the `size` of a READDIR is at the same place as a READ's) */
+		return SMALL_REPLY;
+	/* A READDIR has the record of a READ. */
 	memcpy(&size, m->in + sizeof(*in) + offsetof(struct fuse_read_in, size), sizeof(size));
-	/* (a client may ask for any size: Linux asks for no more than was agreed on) */
-	return size < most - SMALL_ROOM ? SMALL_ROOM + size : most;
+	/* A client may request any size, but Linux requests no more than was negotiated. */
+	return size < most - SMALL_REPLY ? SMALL_REPLY + size : most;
 }
 
-/* Asks the codec for the call of a message. NIZWARF_CALL: the call is set. NIZWARF_OK: it needs no file system, and
- * its reply is in the thread's slot. Others: it's refused. */
-static inline int32_t ask(struct codec_thread *t, struct fuse_session *se, const struct codec_message *m,
-			  nizwarf_call *call, nizwarf_result *result)
+/* Decodes a message. Returns NIZWARF_CALL if `call` was filled in, NIZWARF_OK if the request needs no file
+ * system and its reply is in the scratch memory, and any other code if the request is rejected. */
+static inline int32_t decode(struct codec_thread *t, struct fuse_session *se, const struct codec_message *m,
+			     nizwarf_call *call, nizwarf_result *result)
 {
 	const nizwarf_session session = session_of(se);
 	const struct iovec segment = { m->in, m->len };
-	const size_t room = room_for(&session, m);
+	const size_t reply_size = reply_size_for(&session, m);
 
-	begin_told(result, session.options);
-	if (unlikely(m->len != m->buf->size || is_row(m)))
-		return ask_further(t, &session, room, m, call, result);
-	return nizwarf_decode_at(&t->slot, &session, 0, &segment, 1, room, call, result);
+	clear_result(result, session.options);
+	if (unlikely(m->len != m->buf->size || is_optional(m)))
+		return decode_parts(t, &session, reply_size, m, call, result);
+	return nizwarf_decode_at(&t->scratch, &session, 0, &segment, 1, reply_size, call, result);
 }
 
-/* No call is told: the reply is a header alone. */
-static void forget_call(fuse_req_t req)
+/* Clears the call, so that the reply is a header alone. */
+static void clear_call(fuse_req_t req)
 {
 	call_of(req)->opcode = 0;
 	call_of(req)->reply = NIZWARF_REPLY_NONE;
 }
 
-/* Ends a request that comes to no file system by an error, if a client waits for a reply. `error` is above 0. */
-static void refuse(fuse_req_t req, const struct codec_message *m, int error)
+/* Rejects a request: replies an error number if the client waits for a reply, and ends the request. */
+static void reject(fuse_req_t req, const struct codec_message *m, int error)
 {
 	const struct fuse_in_header *in = (const void *)m->in;
 
-	forget_call(req);
+	clear_call(req);
 	if (m->len < sizeof(*in) || in->opcode == FUSE_FORGET || in->opcode == FUSE_BATCH_FORGET ||
 	    in->opcode == FUSE_INTERRUPT || in->opcode == FUSE_NOTIFY_REPLY) {
 		fuse_reply_none(req);
@@ -748,23 +758,23 @@ static void finish(fuse_req_t req, struct codec_thread *t, const struct codec_me
 	_Alignas(struct fuse_out_header) uint8_t reply[LONGEST_FINISHED];
 	struct iovec iov[1];
 
-	forget_call(req);
-	/* (its header alone says which it is: no call was told) */
+	clear_call(req);
+	/* The number must be read from the header, because there is no call. */
 	req->unique = m->len < sizeof(*in) ? 0 : in->unique;
-	/* (the request of an INTERRUPT is not ended here: it's kept, or has ended) */
+	/* The interrupt stays pending, or has already ended. */
 	if (result->interrupts && has_interrupts(req->se)) {
-		interrupt(req, result->interrupts);
+		handle_interrupt(req, result->interrupts);
 		return;
 	}
 	if (result->interrupts) {
-		/* (it says that there are none, and Linux sends no more) */
+		/* Linux sends no more interrupts after this. */
 		fuse_reply_err(req, ENOSYS);
 		return;
 	}
-	/* (an opcode that is none is answered ENOSYS, for instance) */
+	/* For example, the reply to an unknown opcode is ENOSYS. */
 	if (result->len) {
 		iov[0].iov_base = reply;
-		iov[0].iov_len = nizwarf_scratch_copy_at(&t->slot, 0, reply,
+		iov[0].iov_len = nizwarf_scratch_copy_at(&t->scratch, 0, reply,
 							 result->written < sizeof(reply) ? result->written :
 											   sizeof(reply));
 		fuse_send_msg(req->se, req->ch, iov, 1 SEND_OF(req));
@@ -772,8 +782,8 @@ static void finish(fuse_req_t req, struct codec_thread *t, const struct codec_me
 	fuse_reply_none(req);
 }
 
-/* With -o allow_root, whoever is neither the owner nor root may go on with what is open alone. As libfuse does it,
- * who has the user's name and number from Linux. */
+/* With -o allow_root, users other than the owner and root may only go on using files that are open. These are
+ * the opcodes that libfuse allows. */
 static inline int is_denied(const struct fuse_session *se, const nizwarf_call *c)
 {
 	if (likely(!se->deny_others) || c->uid == se->owner || c->uid == 0)
@@ -794,42 +804,42 @@ static inline int is_denied(const struct fuse_session *se, const nizwarf_call *c
 	}
 }
 
-/* Whether a request comes before an INIT was answered, or is a second one. Both are EIO. */
+/* Returns whether a request arrives before an INIT, or is a second INIT. Both fail with EIO. */
 static inline int is_early(const struct fuse_session *se, const nizwarf_call *c)
 {
 	return se->got_init == (c->opcode == NIZWARF_INIT);
 }
 
-/* Makes the call that a request asks for. */
+/* Makes the call of a request. */
 static inline void make_call(struct fuse_session *se, fuse_req_t req, const struct codec_message *m)
 {
-	const size_t known = sizeof(codec_calls) / sizeof(*codec_calls);
+	const size_t count = sizeof(codec_calls) / sizeof(*codec_calls);
 	const nizwarf_call *c = call_of(req);
 
 	req->unique = c->unique;
 	req->ctx.uid = c->uid;
 	req->ctx.gid = c->gid;
 	req->ctx.pid = c->pid;
-	/* (set by the calls that have one) */
+	/* Calls that have a umask set it. */
 	req->ctx.umask = 0;
-	/* (here, since a call is sure to come where interrupts do) */
-	if (unlikely(count_kept(se)))
-		end_oldest(se);
-	/* (a row may lack what an older libfuse has no function for) */
-	if (likely(c->opcode < known && codec_calls[c->opcode]))
+	/* This is done here because there are calls whenever there are interrupts. */
+	if (unlikely(count_pending(se)))
+		reject_oldest(se);
+	/* An older libfuse has no function for some optional operations. */
+	if (likely(c->opcode < count && codec_calls[c->opcode]))
 		codec_calls[c->opcode](req, c, m);
 	else
-		ABSENT_OP(req);
+		REPLY_ENOSYS(req);
 }
 
-/* What is left of a message in a pipe would be taken for the next one. */
+/* Removes the remaining bytes of a message from the pipe, because they would be read as the next message. */
 static void clear_pipe(struct fuse_session *se, const struct codec_message *m)
 {
 	if (m->buf->flags & FUSE_BUF_IS_FD)
 		fuse_ll_clear_pipe(se);
 }
 
-/* (with -d; it prints no data) */
+/* Prints a request for the option -d, without its data. */
 static __attribute__((noinline)) void print_request(const struct codec_message *m, uint64_t options)
 {
 	char line[512];
@@ -838,39 +848,39 @@ static __attribute__((noinline)) void print_request(const struct codec_message *
 	fuse_log(FUSE_LOG_DEBUG, "%s\n", line);
 }
 
-/* Ends a request that comes to no file system: `code` is what the ask came to. Asked, and yet refused, is what comes
- * too early (EIO), or from whom it may not (EACCES). */
-static __attribute__((noinline)) void end_asked(fuse_req_t req, struct codec_thread *t,
-						const struct codec_message *m, const nizwarf_result *result,
-						int32_t code)
+/* Ends a request that does not reach the file system. `code` is the result of decoding. A request that was
+ * decoded is rejected if it arrives too early (EIO) or from another user (EACCES). */
+static __attribute__((noinline)) void end_undispatched(fuse_req_t req, struct codec_thread *t,
+						       const struct codec_message *m,
+						       const nizwarf_result *result, int32_t code)
 {
 	struct fuse_session *se = req->se;
 
 	if (code == NIZWARF_OK)
 		finish(req, t, m, result);
 	else if (code != NIZWARF_CALL)
-		refuse(req, m, code == NIZWARF_OUT_OF_MEMORY ? ENOMEM : EIO);
+		reject(req, m, code == NIZWARF_OUT_OF_MEMORY ? ENOMEM : EIO);
 	else if (is_early(se, call_of(req)))
-		refuse(req, m, EIO);
+		reject(req, m, EIO);
 	else
-		refuse(req, m, EACCES);
+		reject(req, m, EACCES);
 	clear_pipe(se, m);
 }
 
-/* Asks again while there is no memory, if that is waited for. */
-static __attribute__((noinline)) int32_t ask_again(struct codec_thread *t, struct fuse_session *se,
-						   const struct codec_message *m, nizwarf_call *call,
-						   nizwarf_result *result)
+/* Decodes again as long as there is no memory, if the message is one to wait for. */
+static __attribute__((noinline)) int32_t decode_again(struct codec_thread *t, struct fuse_session *se,
+						      const struct codec_message *m, nizwarf_call *call,
+						      nizwarf_result *result)
 {
 	int32_t code = NIZWARF_OUT_OF_MEMORY;
 	int tries = 0;
 
 	while (code == NIZWARF_OUT_OF_MEMORY && wait_for_memory(m, &tries))
-		code = ask(t, se, m, call, result);
+		code = decode(t, se, m, call, result);
 	return code;
 }
 
-/* The request isn't looked at after it. */
+/* Serves a message. The request must not be used after this. */
 static inline void serve(struct fuse_session *se, fuse_req_t req, struct codec_thread *t,
 			 const struct codec_message *m)
 {
@@ -878,26 +888,26 @@ static inline void serve(struct fuse_session *se, fuse_req_t req, struct codec_t
 	nizwarf_result result;
 	int32_t code;
 
-	code = ask(t, se, m, call, &result);
+	code = decode(t, se, m, call, &result);
 	if (unlikely(code == NIZWARF_OUT_OF_MEMORY))
-		code = ask_again(t, se, m, call, &result);
+		code = decode_again(t, se, m, call, &result);
 	if (unlikely(se->debug))
 		print_request(m, session_of(se).options);
 	if (unlikely(code != NIZWARF_CALL || is_early(se, call) || is_denied(se, call)))
-		end_asked(req, t, m, &result, code);
+		end_undispatched(req, t, m, &result, code);
 	else
 		make_call(se, req, m);
 }
 
-/* A character device begins by a request that the codec doesn't know. */
-static void begin_device(fuse_req_t req, const struct codec_message *m)
+/* Begins a character device, whose first request the codec does not know. */
+static void begin_cuse(fuse_req_t req, const struct codec_message *m)
 {
 	const struct fuse_in_header *in = (const void *)m->in;
 	struct fuse_session *se = req->se;
 
-	/* (libfuse's function reads the whole record) */
+	/* libfuse's function reads the whole record. */
 	if (m->len < sizeof(*in) + sizeof(struct cuse_init_in) || in->opcode != CUSE_INIT) {
-		refuse(req, m, EIO);
+		reject(req, m, EIO);
 		clear_pipe(se, m);
 		return;
 	}
@@ -905,9 +915,9 @@ static void begin_device(fuse_req_t req, const struct codec_message *m)
 	cuse_lowlevel_init(req, in->nodeid, in + 1);
 }
 
-/* Says that there is no memory for a request. There is no request to end, and so libfuse's own way to reply isn't
- * open. */
-static void send_no_memory(struct fuse_session *se, struct fuse_chan *ch, const struct codec_message *m)
+/* Replies ENOMEM to a message for which no request could be allocated, so that libfuse's functions cannot be
+ * used. */
+static void send_enomem(struct fuse_session *se, struct fuse_chan *ch, const struct codec_message *m)
 {
 	const struct fuse_in_header *in = (const void *)m->in;
 	struct fuse_out_header out = { .error = -ENOMEM };
@@ -920,49 +930,50 @@ static void send_no_memory(struct fuse_session *se, struct fuse_chan *ch, const 
 	fuse_send_msg(se, ch, iov, 1 SEND_OF(NULL));
 }
 
-/* Waits for the memory of a request. NULL: it isn't waited for, or for too long, and the client is told. `taken` is 0
- * where the message itself found no memory. */
+/* Waits for the memory of a request. Returns NULL after it has replied ENOMEM, if the message is not one to
+ * wait for, or if there is still no memory. `received` is 0 if there was no memory for the message itself. */
 static __attribute__((noinline)) struct fuse_req *wait_for_req(struct fuse_session *se, struct fuse_chan *ch,
-							       const struct codec_message *m, int taken)
+							       const struct codec_message *m, int received)
 {
 	struct fuse_req *req = NULL;
 	int tries = 0;
 
-	while (taken && !req && wait_for_memory(m, &tries))
-		req = codec_take_req(se);
+	while (received && !req && wait_for_memory(m, &tries))
+		req = codec_new_req(se);
 	if (!req) {
-		send_no_memory(se, ch, m);
+		send_enomem(se, ch, m);
 		clear_pipe(se, m);
 	}
 	return req;
 }
 
-/* libfuse's fuse_session_process_buf: a message as it was received, from any thread. The buffer is the caller's again
- * as it comes back: a call that is answered later has copied what it wants. */
+/* Replaces libfuse's fuse_session_process_buf, which any thread may call with a message that it has received.
+ * The caller may reuse the buffer after this returns, so a call that replies later must have copied its
+ * arguments. */
 void PROCESS_BUF(struct fuse_session *se, const struct fuse_buf *buf, struct fuse_chan *ch)
 {
 	struct codec_message m = { .buf = buf, .in = buf->mem, .len = buf->size };
 	const int in_pipe = buf->flags & FUSE_BUF_IS_FD;
-	_Alignas(struct fuse_in_header) char front[WRITE_FRONT]; /* only for one in a pipe */
+	_Alignas(struct fuse_in_header) char front[WRITE_FRONT]; /* for messages in a pipe */
 	struct fuse_req *req = NULL;
 	char *whole = NULL;
-	int taken = 1;
+	int received = 1;
 
 	if (unlikely(in_pipe))
-		taken = take_message(se, &m, front, &whole);
-	if (likely(taken))
-		req = codec_take_req(se);
+		received = read_message(se, &m, front, &whole);
+	if (likely(received))
+		req = codec_new_req(se);
 	if (unlikely(!req))
-		req = wait_for_req(se, ch, &m, taken);
+		req = wait_for_req(se, ch, &m, received);
 	if (likely(req)) {
 		if (ch)
-			/* (counted: the channel stays until the request has ended) */
+			/* The channel must stay valid until the request has ended. */
 			req->ch = fuse_chan_get(ch);
-		/* (of a character device, until it has begun) */
+		/* This is the first request of a character device. */
 		if (unlikely(se->cuse_data) && !se->got_init)
-			begin_device(req, &m);
+			begin_cuse(req, &m);
 		else
-			serve(se, req, codec_mine, &m);
+			serve(se, req, codec_this_thread, &m);
 	}
 	if (unlikely(in_pipe))
 		free(whole);
