@@ -25,6 +25,7 @@ HAS = {
     "HAVE_COPY_64": r"is_copy\w+_64",
     "HAVE_ERROR_NAMES": r"strerrordesc_np",
     "HAVE_NO_INTERRUPT": r"conn\.no_interrupt",
+    "HAVE_TRACE_PROCESS": r"trace_request_process\(",
     "HAVE_RETRIEVE_HEADER": r"sizeof\(struct fuse_in_header\) \+\s*sizeof\(struct fuse_notify_retrieve_in\)",
 }
 # The check for a message that is shorter than a header. It ends the session in libfuse; here the codec rejects the message.

@@ -680,11 +680,12 @@ static __attribute__((noinline)) int32_t decode_parts(struct codec_thread *t, co
 	struct iovec segments[MAX_SEGMENTS];
 	size_t left = m->buf->size - m->len, count = 1;
 
-	segments[0].iov_base = m->in;
+	/* The casts remove const, which struct iovec does not have: the codec only reads a request. */
+	segments[0].iov_base = (void *)(uintptr_t)m->in;
 	segments[0].iov_len = m->len;
 	for (; left; left -= segments[count++].iov_len) {
 		/* All segments may be the same, because their bytes are not read. */
-		segments[count].iov_base = codec_placeholder;
+		segments[count].iov_base = (void *)(uintptr_t)codec_placeholder;
 		segments[count].iov_len = left < PLACEHOLDER ? left : PLACEHOLDER;
 	}
 	return nizwarf_decode_at(&t->scratch, session, is_optional(m) ? CODEC_FEATURES : 0, segments, count,
@@ -719,7 +720,8 @@ static inline int32_t decode(struct codec_thread *t, struct fuse_session *se, co
 			     nizwarf_call *call, nizwarf_result *result)
 {
 	const nizwarf_session session = session_of(se);
-	const struct iovec segment = { m->in, m->len };
+	/* The cast removes const, as in decode_parts. */
+	const struct iovec segment = { (void *)(uintptr_t)m->in, m->len };
 	const size_t reply_size = reply_size_for(&session, m);
 
 	clear_result(result, session.options);
@@ -816,6 +818,11 @@ static inline void make_call(struct fuse_session *se, fuse_req_t req, const stru
 	const size_t count = sizeof(codec_calls) / sizeof(*codec_calls);
 	const nizwarf_call *c = call_of(req);
 
+#ifdef HAVE_TRACE_PROCESS
+	/* The probe of libfuse 3.18 for a request that begins. */
+	trace_request_process(((const struct fuse_in_header *)(const void *)m->in)->opcode,
+			      (unsigned int)c->unique);
+#endif
 	req->unique = c->unique;
 	req->ctx.uid = c->uid;
 	req->ctx.gid = c->gid;
