@@ -1,6 +1,6 @@
 /* What the rules of docs/PROTOCOL.md make of a request, written again in C, for tests/c/codec.c. */
-#ifndef C_DOOR_CALL_H
-#define C_DOOR_CALL_H
+#ifndef C_CODEC_CALL_H
+#define C_CODEC_CALL_H
 
 #include <string.h>
 #include "nizwarf.h"

@@ -1,6 +1,6 @@
 /* How tests/c/codec.c and tests/c/codec-cases.c make requests, ask and answer. */
-#ifndef C_DOOR_H
-#define C_DOOR_H
+#ifndef C_CODEC_H
+#define C_CODEC_H
 
 #include <linux/fuse.h>
 #include "codec-call.h"
