@@ -119,11 +119,17 @@ type Statfs struct {
 // Connection is what the kernel and the file system agree on. Capable are the options that the kernel has, and Want those
 // that are enabled, as WantWritebackCache. FileSystem.Init may change Want and the fields after Device, of which 0 stands
 // for the usual value. Device is the descriptor of /dev/fuse.
+//
+// Its methods send notices to the kernel. A file system may keep the connection for that, and call them on any goroutine.
+// An invalidation must not be sent by a method for the same node or name, or under a lock that methods need, because Linux
+// may wait for the end of a method before it handles the notice. A notice fails with the error of the kernel, as ENOENT if
+// that has cached nothing; or with ENOTCONN, before Init has returned and once the session has ended.
 type Connection struct {
 	Capable, Want                                                   uint64
 	Device                                                          int
 	MaxReadahead, MaxWrite, TimeGran, MaxStackDepth, RequestTimeout uint32
 	MaxBackground, CongestionThreshold                              uint16
+	server                                                          *server
 }
 
 // Bits of Connection.Want. Others are those of FUSE_ASYNC_READ and the following in linux/fuse.h; flags2 begins at bit 32.
@@ -211,6 +217,19 @@ type FileSystem interface {
 	Setlk(r *Request, node uint64, file *File, lock Lock, sleep bool) error
 	// Flock does an operation of flock(2): LOCK_SH, LOCK_EX or LOCK_UN, with LOCK_NB if it must not wait.
 	Flock(r *Request, node uint64, file *File, operation int) error
+	// Bmap returns the block of the device for a block of a file, on a mount of a block device.
+	Bmap(r *Request, node uint64, blockSize uint32, block uint64) (uint64, error)
+	// Ioctl returns the result of ioctl(2), and output of at most size bytes; or fails with ENOTTY if it does not know the
+	// command. Linux has copied the input from the address that is the argument, and copies the output there. Flags are
+	// FUSE_IOCTL_DIR and others of linux/fuse.h.
+	Ioctl(r *Request, node uint64, command uint32, argument uint64, file *File, flags uint32, input []byte,
+		size uint32) (int32, []byte, error)
+	// Poll returns which events of poll(2) have occurred. If notify is true, Connection.Wake must be called with the
+	// handle as soon as another one occurs.
+	Poll(r *Request, node uint64, file *File, events uint32, handle uint64, notify bool) (uint32, error)
+	// Statx returns at least the attributes in mask, and how long the kernel may cache them. Linux calls it if these are
+	// more than Getattr returns, as the time of birth.
+	Statx(r *Request, node uint64, flags, mask uint32, file *File) (Statx, time.Duration, error)
 	// Interrupt is called when a process no longer waits for the request of this number, which may fail with EINTR.
 	Interrupt(unique uint64)
 }
@@ -219,6 +238,29 @@ type FileSystem interface {
 type Lock struct {
 	Start, End uint64
 	Type, PID  uint32
+}
+
+// Statx has the attributes of statx(2). Mask says which of them are given.
+type Statx struct {
+	_                                        uint64
+	_, _                                     uint32
+	_                                        [2]uint64
+	Mask, Blksize                            uint32
+	Attributes                               uint64
+	Nlink, UID, GID                          uint32
+	Mode                                     uint16
+	_                                        [1]uint16
+	Ino, Size, Blocks, AttributesMask        uint64
+	Atime, Btime, Ctime, Mtime               StatxTime
+	RdevMajor, RdevMinor, DevMajor, DevMinor uint32
+	_                                        [14]uint64
+}
+
+// StatxTime is a time of Statx, since 1970.
+type StatxTime struct {
+	Sec  int64
+	Nsec uint32
+	_    int32
 }
 
 // Default has all methods of FileSystem, for types that embed it. Init, Destroy, Forget, Interrupt, Open,
@@ -279,7 +321,15 @@ func (Default) Syncfs(*Request, uint64) error { return missing }
 func (Default) Tmpfile(*Request, uint64, uint32, uint32) (Entry, Opened, error) {
 	return Entry{}, Opened{}, missing
 }
-func (Default) Getlk(*Request, uint64, *File, Lock) (Lock, error) { return Lock{}, missing }
-func (Default) Setlk(*Request, uint64, *File, Lock, bool) error   { return missing }
-func (Default) Flock(*Request, uint64, *File, int) error          { return missing }
-func (Default) Interrupt(uint64)                                  {}
+func (Default) Getlk(*Request, uint64, *File, Lock) (Lock, error)     { return Lock{}, missing }
+func (Default) Setlk(*Request, uint64, *File, Lock, bool) error       { return missing }
+func (Default) Flock(*Request, uint64, *File, int) error              { return missing }
+func (Default) Bmap(*Request, uint64, uint32, uint64) (uint64, error) { return 0, missing }
+func (Default) Ioctl(*Request, uint64, uint32, uint64, *File, uint32, []byte, uint32) (int32, []byte, error) {
+	return 0, nil, missing
+}
+func (Default) Poll(*Request, uint64, *File, uint32, uint64, bool) (uint32, error) { return 0, missing }
+func (Default) Statx(*Request, uint64, uint32, uint32, *File) (Statx, time.Duration, error) {
+	return Statx{}, 0, missing
+}
+func (Default) Interrupt(uint64) {}

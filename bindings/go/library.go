@@ -29,16 +29,18 @@ const (
 	bufferSize = payload + 4096
 	interrupt  = 36 // an opcode that calls no method
 	initExt    = 1 << 30
-	// The optional operations that FileSystem has, and the options of INIT, HAS_IOCTL_DIR and HAS_INODE_DAX, that need
-	// others.
-	features = C.NIZWARF_FEATURE_LOCKS | C.NIZWARF_FEATURE_COPY_64 | C.NIZWARF_FEATURE_TMPFILE | C.NIZWARF_FEATURE_INIT
-	unserved = 1<<11 | 1<<33
+	// The optional operations that FileSystem has, and the option of INIT, HAS_INODE_DAX, that needs another one.
+	features = C.NIZWARF_FEATURE_LOCKS | C.NIZWARF_FEATURE_BMAP | C.NIZWARF_FEATURE_IOCTL | C.NIZWARF_FEATURE_POLL |
+		C.NIZWARF_FEATURE_STATX | C.NIZWARF_FEATURE_COPY_64 | C.NIZWARF_FEATURE_TMPFILE | C.NIZWARF_FEATURE_INIT
+	unserved = 1 << 33
+	// FUSE_POLL_SCHEDULE_NOTIFY, and the size of the longest notice without its name.
+	scheduleNotify, noticeSize = 1, 48
 )
 
 // Structs of this package that have the layout of the library's, which a test compares.
 var layouts = [][2]any{
 	{Attr{}, C.nizwarf_attr{}}, {Setattr{}, C.nizwarf_setattr{}}, {Statfs{}, C.nizwarf_statfs{}},
-	{Lock{}, C.nizwarf_lock{}},
+	{Lock{}, C.nizwarf_lock{}}, {Statx{}, C.nizwarf_statx{}}, {StatxTime{}, C.nizwarf_sx_time{}},
 }
 
 // worker serves one request at a time. C allocates the memory that it reads through pointers: the buffers of the request
@@ -189,7 +191,8 @@ func (w *worker) describe() {
 	lock := C.nizwarf_lock_of(c)
 	w.lock = *(*Lock)(unsafe.Pointer(&lock))
 	switch c.opcode {
-	case C.NIZWARF_SETATTR, C.NIZWARF_GETLK, C.NIZWARF_SETLK, C.NIZWARF_SETLKW: // flags are not those of open(2)
+	case C.NIZWARF_SETATTR, C.NIZWARF_GETLK, C.NIZWARF_SETLK, C.NIZWARF_SETLKW, C.NIZWARF_IOCTL, C.NIZWARF_POLL,
+		C.NIZWARF_STATX: // flags are not those of open(2)
 		w.file.Flags = 0
 	case C.NIZWARF_COPY, C.NIZWARF_COPY_64:
 		w.file.LockOwner = 0
@@ -251,6 +254,9 @@ func (w *worker) count(count int64, err error, most uint64) error {
 
 // text puts bytes into the reply buffer.
 func (w *worker) text(it []byte, err error) error {
+	if err == nil && len(it) > len(w.body()) {
+		return syscall.ERANGE
+	}
 	w.answer.text = (*C.uint8_t)(unsafe.Add(w.buffer, headerSize))
 	w.answer.text_len = C.size_t(copy(w.body(), it))
 	return err
@@ -323,6 +329,10 @@ var methods = [...]func(w *worker) error{
 	C.NIZWARF_FALLOCATE: func(w *worker) error {
 		return w.fs.Fallocate(w.who, w.node, w.mode, w.offset, w.length, w.file)
 	},
+	C.NIZWARF_BMAP:    func(w *worker) error { return w.number64(w.fs.Bmap(w.who, w.node, uint32(w.size), w.offset)) },
+	C.NIZWARF_IOCTL:   (*worker).ioctl,
+	C.NIZWARF_POLL:    (*worker).poll,
+	C.NIZWARF_STATX:   (*worker).statx,
 	C.NIZWARF_LSEEK:   func(w *worker) error { return w.number64(w.fs.Lseek(w.who, w.node, w.offset, w.more, w.file)) },
 	C.NIZWARF_COPY:    (*worker).copyRange,
 	C.NIZWARF_COPY_64: (*worker).copyRange,
@@ -333,7 +343,7 @@ var methods = [...]func(w *worker) error{
 func (w *worker) init() error {
 	capable, extension := uint64(C.nizwarf_init_capable(&w.call)), uint64(C.nizwarf_init_ext_flags(&w.call))
 	it := Connection{Capable: capable | extension, Want: capable & C.NIZWARF_WANT_DEFAULT &^ WantAtomicTruncate,
-		Device: w.device}
+		Device: w.device, server: w.server}
 	err := w.fs.Init(&it)
 	it.Want &= it.Capable &^ unserved
 	if it.Want>>32 != 0 {
@@ -410,6 +420,27 @@ func (w *worker) listxattr() error {
 	return w.xattr([]byte(strings.Join(append(names, ""), "\x00")), err)
 }
 
+func (w *worker) ioctl() error {
+	result, output, err := w.fs.Ioctl(w.who, w.node, w.more, w.offset, w.file, w.flags, w.data, uint32(w.size))
+	if err == nil && uint64(len(output)) > w.size {
+		return fmt.Errorf("%d bytes, where at most %d were requested", len(output), w.size)
+	}
+	record := C.nizwarf_ioctl{result: C.int32_t(result)}
+	return w.text(append(unsafe.Slice((*byte)(unsafe.Pointer(&record)), unsafe.Sizeof(record)), output...), err)
+}
+
+func (w *worker) poll() error {
+	events, err := w.fs.Poll(w.who, w.node, w.file, w.more, w.offset, w.flags&scheduleNotify != 0)
+	return w.number64(uint64(events), err)
+}
+
+func (w *worker) statx() error {
+	statx, timeout, err := w.fs.Statx(w.who, w.node, w.flags, w.more, w.openFile)
+	record := (*C.nizwarf_statx)(unsafe.Pointer(&statx))
+	record.attr_seconds, record.attr_nanoseconds = split(timeout)
+	return w.text(unsafe.Slice((*byte)(unsafe.Pointer(record)), unsafe.Sizeof(statx)), err)
+}
+
 func (w *worker) copyRange() error {
 	c, size := &w.call, w.length
 	if c.opcode == C.NIZWARF_COPY && size > C.NIZWARF_MAX_COPY {
@@ -477,4 +508,27 @@ func (w *worker) setlk() error {
 		operation |= syscall.LOCK_NB
 	}
 	return w.fs.Flock(w.who, w.node, w.file, operation)
+}
+
+// From here on: notices.
+
+// Wake makes the processes that have polled a file with this handle poll it again.
+func (c *Connection) Wake(handle uint64) error {
+	var notice [noticeSize]byte
+	return c.server.notify(notice[:C.nizwarf_notice_poll(C.uint64_t(handle), unsafe.Pointer(&notice[0]), noticeSize)])
+}
+
+// InvalidateInode drops what the kernel has cached of a node: the attributes, and length bytes of the data from offset on,
+// or all from there if length is 0. If offset is negative, only the attributes are dropped.
+func (c *Connection) InvalidateInode(node uint64, offset, length int64) error {
+	var notice [noticeSize]byte
+	return c.server.notify(notice[:C.nizwarf_notice_inval_inode(C.uint64_t(node), C.int64_t(offset), C.int64_t(length),
+		unsafe.Pointer(&notice[0]), noticeSize)])
+}
+
+// InvalidateEntry drops a name that the kernel has cached, so that it is looked up again.
+func (c *Connection) InvalidateEntry(parent uint64, name string) error {
+	notice, text := make([]byte, noticeSize+len(name)), append([]byte(name), 0)
+	return c.server.notify(notice[:C.nizwarf_notice_inval_entry(C.uint64_t(parent), 0, (*C.char)(unsafe.Pointer(&text[0])),
+		C.size_t(len(name)), unsafe.Pointer(&notice[0]), C.size_t(len(notice)))])
 }

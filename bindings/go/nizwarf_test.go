@@ -2,6 +2,7 @@ package nizwarf
 
 import (
 	"bytes"
+	"context"
 	"encoding/binary"
 	"errors"
 	"fmt"
@@ -10,9 +11,12 @@ import (
 	"os"
 	"reflect"
 	"strings"
+	"sync"
+	"sync/atomic"
 	"syscall"
 	"testing"
 	"time"
+	"unsafe"
 )
 
 // memory is a file system of files in its root, which records the handles and lookups that were released and forgotten.
@@ -88,6 +92,9 @@ func (wrong) Readlink(*Request, uint64) (string, error)                  { retur
 func (wrong) Read(*Request, uint64, []byte, uint64, *File) (int, error)  { return 1 << 20, nil }
 func (wrong) Write(*Request, uint64, []byte, uint64, *File) (int, error) { return 4, nil }
 func (wrong) Getxattr(*Request, uint64, string) ([]byte, error)          { return make([]byte, 9), nil }
+func (wrong) Ioctl(*Request, uint64, uint32, uint64, *File, uint32, []byte, uint32) (int32, []byte, error) {
+	return 0, make([]byte, 2<<20), nil
+}
 func (wrong) Readdir(_ *Request, _, _ uint64, _ *File, add func(DirectoryEntry) bool) error {
 	add(DirectoryEntry{Name: "a\x00b", Offset: 1})
 	return nil
@@ -181,7 +188,7 @@ func TestStructsHaveTheLayoutOfTheLibrary(t *testing.T) {
 		for i := 0; i < ours.NumField(); i++ {
 			a, b := ours.Field(i), theirs.Field(i)
 			if a.Offset != b.Offset || a.Type.Size() != b.Type.Size() || a.Name != "_" &&
-				!strings.EqualFold(a.Name, strings.ReplaceAll(b.Name, "_", "")) {
+				!strings.EqualFold(a.Name, strings.NewReplacer("tv_", "", "_", "").Replace(b.Name)) {
 				t.Errorf("%v: %v is not %v", ours, a, b)
 			}
 		}
@@ -218,7 +225,8 @@ func TestReaddirplusLooksEntriesUp(t *testing.T) {
 func TestWhatIsMissingIsENOSYSOrSucceeds(t *testing.T) {
 	k := begin(t, struct{ Default }{}, 0)
 	for opcode, expected := range map[uint32]syscall.Errno{3: syscall.ENOSYS, 16: syscall.ENOSYS, 14: 0, 18: 0, 27: 0, 29: 0,
-		17: 0, 31: syscall.ENOSYS, 39: syscall.ENOSYS, 40: syscall.ENOSYS, 51: syscall.ENOSYS, 9999: syscall.ENOSYS} {
+		17: 0, 31: syscall.ENOSYS, 37: syscall.ENOSYS, 39: syscall.ENOSYS, 40: syscall.ENOSYS, 51: syscall.ENOSYS,
+		52: syscall.ENOSYS, 9999: syscall.ENOSYS} {
 		k.call(opcode, Root, make([]byte, 64), expected)
 	}
 }
@@ -231,6 +239,7 @@ func TestWhatLinuxWouldRefuseIsAnError(t *testing.T) {
 		expected syscall.Errno
 	}{{1, pack("a\x00"), syscall.EIO}, {10, pack("a\x00"), syscall.EIO}, {11, pack("a\x00"), syscall.EIO},
 		{5, nil, syscall.EIO}, {15, readBody, syscall.EIO}, {16, writeBody, syscall.EIO}, {28, readBody, syscall.EIO},
+		{39, pack([28]byte{}, uint32(2)), syscall.EIO}, {39, pack([28]byte{}, uint32(1<<31)), syscall.ERANGE},
 		{22, pack(uint64(8), "a\x00"), syscall.ERANGE}, {22, pack(uint64(9), "a\x00"), 0}, {22, pack(uint64(0), "a\x00"), 0}} {
 		k.call(it.opcode, 1, it.body, it.expected)
 	}
@@ -254,7 +263,7 @@ func TestWhatTheKernelDoesNotGetIsReleasedAndForgotten(t *testing.T) {
 
 func TestOptionsAreNegotiatedIfTheyAreWantedAndServed(t *testing.T) {
 	for _, it := range []struct{ want, capable, expected uint64 }{
-		{0, 1 << 3, 0}, {WantAtomicTruncate, 1 << 3, 1 << 3}, {WantAtomicTruncate, 0, 0}, {1 << 11, 1 << 11, 0},
+		{0, 1 << 3, 0}, {WantAtomicTruncate, 1 << 3, 1 << 3}, {WantAtomicTruncate, 0, 0}, {1 << 33, 1 << 33, 0},
 		{0, WantIDMap, 0}, {WantIDMap, WantIDMap, WantIDMap}, {0, 1, 1}, {1 << 38, 1 << 38, 1 << 38}, {0, 1 << 38, 0}} {
 		m := newMemory()
 		m.want = it.want
@@ -292,5 +301,196 @@ func TestALockThatIsWaitedForHoldsUpNobody(t *testing.T) {
 	reply := make([]byte, 100)
 	if size, err := syscall.Read(k.device, reply); err != nil || !bytes.Equal(reply[:size], fault(waits, 0)) {
 		t.Errorf("reply % x, %v", reply[:size], err)
+	}
+}
+
+const pollIn = 1
+
+// pipe has a file `a` that is readable once something has happened, and records the arguments of methods.
+type pipe struct {
+	Default
+	connection *Connection
+	early      error
+	arguments  string
+	handles    chan uint64
+	happened   atomic.Bool
+	lookups    atomic.Int32
+}
+
+func (p *pipe) Init(c *Connection) error {
+	p.connection, p.early = c, c.Wake(1)
+	return nil
+}
+
+func (p *pipe) Lookup(r *Request, parent uint64, name string) (Entry, error) {
+	p.lookups.Add(1)
+	attr, _, _ := p.Getattr(r, 'a', nil)
+	return Entry{Node: 'a', Attr: attr, EntryTimeout: time.Hour}, nil
+}
+
+func (p *pipe) Getattr(r *Request, node uint64, file *File) (Attr, time.Duration, error) {
+	if node == Root {
+		return Attr{Ino: Root, Mode: syscall.S_IFDIR | 0755, Nlink: 2}, 0, nil
+	}
+	return Attr{Ino: node, Mode: syscall.S_IFREG | 0644, Nlink: 1}, 0, nil
+}
+
+func (p *pipe) Bmap(r *Request, node uint64, blockSize uint32, block uint64) (uint64, error) {
+	p.arguments = fmt.Sprint(node, blockSize, block)
+	return 1 << 40, nil
+}
+
+func (p *pipe) Ioctl(r *Request, node uint64, command uint32, argument uint64, file *File, flags uint32, input []byte,
+	size uint32) (int32, []byte, error) {
+	p.arguments = fmt.Sprint(node, command, argument, *file, flags, input, size)
+	return -1, []byte("out"), nil
+}
+
+func (p *pipe) Poll(r *Request, node uint64, file *File, events uint32, handle uint64, notify bool) (uint32, error) {
+	p.arguments = fmt.Sprint(node, *file, events, handle, notify)
+	if p.happened.Load() {
+		return pollIn, nil
+	}
+	if notify {
+		p.handles <- handle
+	}
+	return 0, nil
+}
+
+func (p *pipe) Statx(r *Request, node uint64, flags, mask uint32, file *File) (Statx, time.Duration, error) {
+	p.arguments = fmt.Sprint(node, flags, mask, *file)
+	return Statx{Mask: mask, Btime: StatxTime{Sec: 5}, DevMinor: 6}, 1500 * time.Millisecond, nil
+}
+
+func TestOptionalOperationsHaveTheirArgumentsAndResults(t *testing.T) {
+	p := &pipe{handles: make(chan uint64, 2)}
+	k := begin(t, p, 0)
+	for _, it := range []struct {
+		opcode    uint32
+		body      []byte
+		arguments string
+		expected  []byte
+	}{
+		{37, pack(uint64(5), uint32(512), uint32(0)), "97 512 5", pack(uint64(1 << 40))},
+		{39, pack(uint64(9), uint32(16), uint32(77), uint64(4), uint32(2), uint32(8), "in"), "97 77 4 {9 0 0} 16 [105 110] 8",
+			pack(int32(-1), uint32(0), uint64(0), "out")},
+		{40, pack(uint64(9), uint64(6), uint32(1), uint32(4)), "97 {9 0 0} 4 6 true", pack(uint64(0))},
+		{40, pack(uint64(9), uint64(6), uint32(0), uint32(4)), "97 {9 0 0} 4 6 false", pack(uint64(0))},
+		{52, pack(uint32(1), uint32(0), uint64(9), uint32(2), uint32(0x800)), "97 2 2048 {9 0 0}",
+			pack(uint64(1), uint32(5e8), [20]byte{}, uint32(0x800), [76]byte{}, uint64(5), [52]byte{}, uint32(6), [112]byte{})},
+	} {
+		if reply := k.call(it.opcode, 'a', it.body, 0); !bytes.Equal(reply, it.expected) || p.arguments != it.arguments {
+			t.Errorf("%d: % x, %s", it.opcode, reply, p.arguments)
+		}
+	}
+}
+
+func TestNoticesAreSentFromAnyGoroutineUntilTheEnd(t *testing.T) {
+	p := &pipe{}
+	k := begin(t, p, 0)
+	if none := (&Connection{}).Wake(1); p.early != syscall.ENOTCONN || none != syscall.ENOTCONN {
+		t.Error(p.early, none)
+	}
+	for _, it := range []struct {
+		send     func() error
+		expected []byte
+	}{
+		{func() error { return p.connection.Wake(6) }, pack(uint32(24), uint32(1), uint64(0), uint64(6))},
+		{func() error { return p.connection.InvalidateInode(7, -1, 2) },
+			pack(uint32(40), uint32(2), uint64(0), uint64(7), int64(-1), int64(2))},
+		{func() error { return p.connection.InvalidateEntry(Root, "name") },
+			pack(uint32(37), uint32(3), uint64(0), uint64(Root), uint32(4), uint32(0), "name\x00")},
+	} {
+		if err := it.send(); err != nil {
+			t.Error(err)
+		}
+		notice := make([]byte, 100)
+		if size, err := syscall.Read(k.device, notice); err != nil || !bytes.Equal(notice[:size], it.expected) {
+			t.Errorf("notice % x, %v", notice[:size], err)
+		}
+	}
+	var senders sync.WaitGroup
+	for i := 0; i < 4; i++ {
+		senders.Add(1)
+		go func() {
+			defer senders.Done()
+			for p.connection.Wake(6) == nil {
+			}
+		}()
+	}
+	if err := syscall.Shutdown(k.device, syscall.SHUT_RDWR); err != nil {
+		t.Fatal(err)
+	}
+	senders.Wait()
+	k.served <- <-k.served
+	if err := p.connection.InvalidateEntry(Root, ""); err != syscall.ENOTCONN {
+		t.Error(err)
+	}
+}
+
+func TestAMountIsPolledAndInvalidated(t *testing.T) {
+	if _, err := os.Stat("/dev/fuse"); err != nil || os.Getuid() != 0 {
+		t.Skip("requires root and /dev/fuse")
+	}
+	p, folder, served := &pipe{handles: make(chan uint64)}, t.TempDir(), make(chan error, 1)
+	name := folder + "/a"
+	ctx, unmount := context.WithCancel(context.Background())
+	go func() {
+		served <- Mount(ctx, p, folder, MountOptions{})
+		close(served)
+	}()
+	end := func() {
+		unmount()
+		if err := <-served; err != nil {
+			t.Error(err)
+		}
+	}
+	defer end()
+	for syscall.Access(name, 4) != nil {
+		select {
+		case err := <-served:
+			t.Fatal(err)
+		case <-time.After(time.Millisecond):
+		}
+	}
+	// (package os would have the runtime poll the file)
+	file, err := syscall.Open(name, syscall.O_RDONLY|syscall.O_CLOEXEC, 0)
+	if err != nil {
+		t.Fatal(err)
+	}
+	go func() {
+		handle := <-p.handles
+		p.happened.Store(true)
+		if err := p.connection.Wake(handle); err != nil {
+			t.Error(err)
+		}
+	}()
+	waiting := struct {
+		file            int32
+		events, revents int16
+	}{int32(file), pollIn, 0}
+	if count, _, err := syscall.Syscall(syscall.SYS_POLL, uintptr(unsafe.Pointer(&waiting)), 1, 20000); count != 1 ||
+		waiting.revents != pollIn {
+		t.Error(count, waiting, err)
+	}
+	syscall.Close(file)
+	before := p.lookups.Load()
+	if err := p.connection.InvalidateEntry(Root, "a"); err != nil {
+		t.Error(err)
+	}
+	if err := syscall.Access(name, 4); err != nil || p.lookups.Load() != before+1 {
+		t.Error(err, p.lookups.Load(), before)
+	}
+	if err := p.connection.InvalidateInode('a', 0, 0); err != nil {
+		t.Error(err)
+	}
+	for _, err := range []error{p.connection.InvalidateEntry(Root, "b"), p.connection.InvalidateInode('b', 0, 0)} {
+		if err != syscall.ENOENT {
+			t.Error(err)
+		}
+	}
+	end()
+	if err := p.connection.Wake(1); err != syscall.ENOTCONN {
+		t.Error(err)
 	}
 }

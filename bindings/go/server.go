@@ -24,6 +24,9 @@ type server struct {
 	workers sync.WaitGroup
 	failed  sync.Once
 	failure error
+	// Notices are sent under this lock, so that none is sent once Serve has returned and the descriptor may be closed.
+	notices sync.RWMutex
+	ended   bool
 }
 
 // Serve serves the requests that come by a descriptor, each as one read, until its other end is closed, or it is
@@ -56,10 +59,11 @@ func (s *server) work() {
 		switch {
 		case errors.Is(err, syscall.EINTR), errors.Is(err, syscall.ENOENT), errors.Is(err, syscall.EAGAIN):
 			continue // the request was aborted
-		case isEnd(err) || err == nil && size == 0:
-			return
-		case err != nil:
-			s.failed.Do(func() { s.failure = fmt.Errorf("reading requests: %w", err) })
+		case err != nil || size == 0:
+			if err != nil && !isEnd(err) {
+				s.failed.Do(func() { s.failure = fmt.Errorf("reading requests: %w", err) })
+			}
+			s.end()
 			return
 		}
 		if s.idle.Add(-1) == 0 {
@@ -90,6 +94,30 @@ func (s *server) send(reply []byte) {
 	log.Printf("nizwarf: a reply could not be sent: %v", err)
 	// (an error of this one says that the process has its error already)
 	_, _ = syscall.Write(s.device, fault(binary.LittleEndian.Uint64(reply[8:]), syscall.EIO))
+}
+
+// notify sends a notice. It may be called at any time, and without a server.
+func (s *server) notify(notice []byte) error {
+	if s == nil {
+		return syscall.ENOTCONN
+	}
+	s.notices.RLock()
+	defer s.notices.RUnlock()
+	if s.ended || s.options.Load() == 0 {
+		return syscall.ENOTCONN
+	}
+	_, err := syscall.Write(s.device, notice)
+	if isEnd(err) {
+		return syscall.ENOTCONN
+	}
+	return err
+}
+
+// end has later notices fail, and waits for the others. The kernel ends these with the connection.
+func (s *server) end() {
+	s.notices.Lock()
+	defer s.notices.Unlock()
+	s.ended = true
 }
 
 // fault returns a reply that is an error.
