@@ -69,7 +69,7 @@ follow_readme() {
 }
 
 # (bindings/rust/check.sh counts its own)
-steps=15
+steps=17
 make_shared
 export LD_LIBRARY_PATH=$built${LD_LIBRARY_PATH:+:$LD_LIBRARY_PATH}
 if command -v pytest-3 > /dev/null; then
@@ -103,6 +103,9 @@ if command -v go > /dev/null; then
     step "Build of hello" go build -o "$built/hello" ./examples/hello
     step "Tests of the package for Go" go test -count=1 ./...
     check_hello hello "$built/hello"
+    for end in fusermount3 SIGTERM; do
+        check_other hello "$end" "$built/hello" "$built/libnizwarf.so.1"
+    done
     for sanitizer in -asan -race; do
         if go build $sanitizer -o "$built/hello$sanitizer" ./examples/hello 2> "$folder/said"; then
             step "Tests of the package for Go with $sanitizer" go test -count=1 $sanitizer .
@@ -112,7 +115,7 @@ if command -v go > /dev/null; then
     done
     cd "$here"
 else
-    skip 10 "go is not installed, so Go is skipped: apt-get install golang-go."
+    skip 12 "go is not installed, so Go is skipped: apt-get install golang-go."
 fi
 if command -v cargo > /dev/null; then
     "$here/bindings/rust/check.sh" "$@"

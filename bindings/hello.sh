@@ -55,6 +55,27 @@ check_aborted() {
     fi
 }
 
+# Mounts the program `hello` as another user, with the libraries that it needs, and unmounts it as mount_hello.sh does:
+# mount_as_other END HELLO LIBRARY..
+mount_as_other() {
+    mkdir -p "$folder/other/dev" "$folder/other/mount"
+    cp "${@:2}" "$folder/other"
+    # (mktemp's folder is root's alone)
+    chmod -R 755 "$folder"
+    chown 65534:65534 "$folder/other/mount"
+    LD_LIBRARY_PATH=$folder/other timeout 60 unshare -m "$here/bindings/mount_hello.sh" "$folder/other" "$1" \
+        setpriv --reuid=65534 --regid=65534 --clear-groups
+}
+
+# Does so if it is possible: check_other NAME END HELLO LIBRARY..
+check_other() {
+    if may_mount && command -v fusermount3 > /dev/null && command -v setpriv > /dev/null; then
+        step "$1, mounted by another user, unmounted by $2" mount_as_other "${@:2}"
+    else
+        skip 1 "$1 is not mounted by another user: this needs root, /dev/fuse, mountpoint, fusermount3 and setpriv."
+    fi
+}
+
 # Whether the programs can mount.
 may_mount() {
     [ "$(id -u)" = 0 ] && [ -e /dev/fuse ] && command -v mountpoint > /dev/null

@@ -494,3 +494,10 @@ func TestAMountIsPolledAndInvalidated(t *testing.T) {
 		t.Error(err)
 	}
 }
+
+func TestAMountThatFailsSaysWhere(t *testing.T) {
+	err := Mount(context.Background(), Default{}, "/none", MountOptions{})
+	if !errors.Is(err, syscall.ENOENT) || !strings.Contains(err.Error(), "/none") {
+		t.Error(err)
+	}
+}

@@ -1,12 +1,10 @@
 package nizwarf
 
 import (
-	"context"
 	"encoding/binary"
 	"errors"
 	"fmt"
 	"log"
-	"os"
 	"runtime"
 	"sync"
 	"sync/atomic"
@@ -127,61 +125,4 @@ func fault(unique uint64, number syscall.Errno) []byte {
 	binary.LittleEndian.PutUint32(reply[4:], uint32(-int32(number)))
 	binary.LittleEndian.PutUint64(reply[8:], unique)
 	return reply
-}
-
-// MountOptions says how a file system is mounted.
-type MountOptions struct {
-	// Name is the source that mount(8) lists, by default nizwarf.
-	Name string
-	// AllowOther lets other users than root use the mount.
-	ReadOnly, AllowOther bool
-	// NoDefaultPermissions leaves it to the file system to check permissions.
-	NoDefaultPermissions bool
-}
-
-// Mount mounts a file system, as root, and serves it until it is unmounted. The end of the context unmounts it: at once,
-// or, if somebody still uses it, with its last user.
-func Mount(ctx context.Context, fs FileSystem, mountpoint string, options MountOptions) error {
-	var st syscall.Stat_t
-	if err := syscall.Stat(mountpoint, &st); err != nil {
-		return &os.PathError{Op: "mount", Path: mountpoint, Err: err}
-	}
-	device, err := syscall.Open("/dev/fuse", syscall.O_RDWR|syscall.O_CLOEXEC, 0)
-	if err != nil {
-		return &os.PathError{Op: "open", Path: "/dev/fuse", Err: err}
-	}
-	defer syscall.Close(device)
-	data := fmt.Sprintf("fd=%d,rootmode=%o,user_id=%d,group_id=%d", device, st.Mode&syscall.S_IFMT, os.Getuid(), os.Getgid())
-	flags := uintptr(syscall.MS_NOSUID | syscall.MS_NODEV)
-	if options.ReadOnly {
-		flags |= syscall.MS_RDONLY
-	}
-	if options.AllowOther {
-		data += ",allow_other"
-	}
-	if !options.NoDefaultPermissions {
-		data += ",default_permissions"
-	}
-	if options.Name == "" {
-		options.Name = "nizwarf"
-	}
-	if err := syscall.Mount(options.Name, mountpoint, "fuse."+options.Name, flags, data); err != nil {
-		return &os.PathError{Op: "mount", Path: mountpoint, Err: err}
-	}
-	served := make(chan error, 1)
-	go func() { served <- Serve(fs, device) }()
-	select {
-	case err = <-served:
-		if err == nil { // it was unmounted
-			return nil
-		}
-	case <-ctx.Done():
-	}
-	if failure := syscall.Unmount(mountpoint, syscall.MNT_DETACH); failure != nil {
-		return &os.PathError{Op: "unmount", Path: mountpoint, Err: failure}
-	}
-	if err == nil {
-		err = <-served
-	}
-	return err
 }

@@ -58,17 +58,6 @@ passed() {
 tests=(--lib --test answers --test calls --test fuser --test hostile --test later --test mount
     --test mount_optional --test refusals --test serve --test server --test threads)
 
-# Mounts hello.rs as another user.
-mount_as_other() {
-    mkdir -p "$folder/other/dev" "$folder/other/mount"
-    cp "$built/debug/examples/hello" "$folder/other/hello"
-    # (mktemp's folder is root's alone)
-    chmod -R 755 "$folder"
-    chown 65534:65534 "$folder/other/mount"
-    timeout 60 unshare -m "$here/bindings/mount_hello.sh" "$folder/other" \
-        setpriv --reuid=65534 --regid=65534 --clear-groups
-}
-
 # Packs the crate, builds the package, and does the steps of `cargo publish` before the upload, with an empty index.
 make_package() {
     # (a target of its own, because cargo would take the build of the package for that of the sources, and would not
@@ -159,11 +148,7 @@ if may_mount; then
     check_aborted hello.rs "$built/debug/examples/hello" "$folder/mount"
     step "check.rs in front of it, mounted" \
         use_mount "$built/debug/examples/check" "$folder/mount" "$built/debug/examples/hello" -
-    if command -v fusermount3 > /dev/null && command -v setpriv > /dev/null; then
-        step "hello.rs, mounted by another user" mount_as_other
-    else
-        skip 1 "No other user mounts: this needs fusermount3 and setpriv."
-    fi
+    check_other hello.rs fusermount3 "$built/debug/examples/hello"
 else
     skip 4 "Nothing is mounted: this needs root, /dev/fuse and mountpoint."
 fi
