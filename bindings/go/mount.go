@@ -54,8 +54,8 @@ func Mount(ctx context.Context, fs FileSystem, mountpoint string, options MountO
 	return err
 }
 
-// words are the options that mount(2) and fusermount3 have in common.
-func (options *MountOptions) words() string {
+// list returns the options that mount(2) and fusermount3 have in common.
+func (options *MountOptions) list() string {
 	words := ""
 	if options.AllowOther {
 		words += ",allow_other"
@@ -81,7 +81,7 @@ func mountDirectly(mountpoint string, options *MountOptions) (int, error) {
 	if options.ReadOnly {
 		flags |= syscall.MS_RDONLY
 	}
-	if err := syscall.Mount(options.Name, mountpoint, "fuse."+options.Name, flags, data+options.words()); err != nil {
+	if err := syscall.Mount(options.Name, mountpoint, "fuse."+options.Name, flags, data+options.list()); err != nil {
 		syscall.Close(device)
 		return -1, &os.PathError{Op: "mount", Path: mountpoint, Err: err}
 	}
@@ -102,7 +102,7 @@ func mountByFusermount(mountpoint string, options *MountOptions) (int, error) {
 	theirs := os.NewFile(uintptr(ends[1]), "socket")
 	// (a comma ends an option)
 	name := strings.NewReplacer(`\`, `\\`, ",", `\,`).Replace(options.Name)
-	words := "fsname=" + name + ",subtype=" + name + options.words()
+	words := "fsname=" + name + ",subtype=" + name + options.list()
 	if options.ReadOnly {
 		words += ",ro"
 	}
