@@ -415,10 +415,10 @@ static int open_made(const struct call *call, const char *name, int fd, struct s
 /* Labels what was just made: 0, or an error, by which it is gone. */
 static int label_new(const struct call *call, const char *name, int fd)
 {
-	const int error = label(call, fd);
+	int error = label(call, fd);
 
 	if (error && call->asked->opcode == NIZWARF_CREATE)
-		unmake_of(call->node.fd, name, fd);
+		error = unmake_of(call->node.fd, name, fd, error);
 	if (error)
 		close(fd);
 	return error;
@@ -504,7 +504,7 @@ static int create_file(const struct call *call)
 	path = open_made(call, name, fd, &seen);
 	error = tell_new(call, name, fd, path, &seen);
 	if (error) {
-		unmake_of(call->node.fd, name, fd);
+		error = unmake_of(call->node.fd, name, fd, error);
 		fd_let_go(&call->all->nodes, fd);
 	}
 	return error;

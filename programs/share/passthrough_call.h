@@ -137,8 +137,9 @@ int find_name(const struct call *call, const char *name);
 int make_node(const struct call *call);
 int link_node(const struct call *call);
 int rename_node(const struct call *call);
-/* Takes back a name that was made of a file, unless it leads to another one by now. */
-void unmake_of(int directory, const char *name, int fd);
+/* Takes back a name that was made of a file, unless it leads to another one by now. Returns the error of the call, or EIO
+ * if the name stays. */
+int unmake_of(int directory, const char *name, int fd, int error);
 
 /* Leaves the thread of a worker the capabilities that it needs, if it is root, and makes it ready for become(): 0,
  * or -1 with errno. */

@@ -20,27 +20,30 @@
  * such a file has no data yet.
  *
  * Between the look and the removing another file may still take the name, and go in its place: Linux
- * can't remove a name of one file alone. A directory goes only if it is empty. */
-static void unmake(int directory, const char *name, const struct statx *made)
+ * can't remove a name of one file alone. A directory goes only if it is empty.
+ *
+ * Returns the error of the call. It is EIO if the host does not remove the name, as in a directory that is open for
+ * appending alone (chattr +a): by another error the call would be repeated, and find what it made itself. */
+static int unmake(int directory, const char *name, const struct statx *made, int error)
 {
 	struct statx seen;
 
 	if (statx(directory, name, AT_SYMLINK_NOFOLLOW | AT_NO_AUTOMOUNT, WANTED, &seen) ||
 	    (seen.stx_mode ^ made->stx_mode) & S_IFMT)
-		return;
+		return error;
 	/* (without an inode it is as what was made: a directory, or of the size of that) */
 	if (made->stx_ino ? seen.stx_ino == made->stx_ino && seen.stx_mnt_id == made->stx_mnt_id :
 			    S_ISDIR(seen.stx_mode) || seen.stx_size == made->stx_size)
-		unlinkat(directory, name, S_ISDIR(seen.stx_mode) ? AT_REMOVEDIR : 0);
+		return unlinkat(directory, name, S_ISDIR(seen.stx_mode) ? AT_REMOVEDIR : 0) ? EIO : error;
+	return error;
 }
 
 /* (if it can't be looked at the name stays, and the client sees it later) */
-void unmake_of(int directory, const char *name, int fd)
+int unmake_of(int directory, const char *name, int fd, int error)
 {
 	struct statx made;
 
-	if (!look_at(fd, &made))
-		unmake(directory, name, &made);
+	return look_at(fd, &made) ? EIO : unmake(directory, name, &made, error);
 }
 
 /* What is known of what a call made, without a look: its type, and of a symbolic link the size, which
@@ -124,7 +127,7 @@ int make_node(const struct call *call)
 	if (error) {
 		const struct statx made = made_by(call);
 
-		unmake(directory, name, &made);
+		error = unmake(directory, name, &made, error);
 	}
 	return error;
 }
@@ -169,10 +172,8 @@ int link_node(const struct call *call)
 	error = failed(
 		linkat(nodes->proc, name_fd(call->node.fd).bytes, call->other.fd, name, AT_SYMLINK_FOLLOW));
 	/* (the attributes are those after it: there is a link more) */
-	if (!error && look_at(call->node.fd, &seen)) {
-		error = errno;
-		unmake(call->other.fd, name, &made);
-	}
+	if (!error && look_at(call->node.fd, &seen))
+		error = unmake(call->other.fd, name, &made, errno);
 	if (error)
 		node_forget(nodes, call->client, node->counted.number, 1);
 	else

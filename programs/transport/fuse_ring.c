@@ -18,6 +18,7 @@
  * processor as long as that goes on, and there alone. */
 #define _GNU_SOURCE
 #include <errno.h>
+#include <fcntl.h>
 #include <pthread.h>
 #include <sched.h>
 #include <stdatomic.h>
@@ -259,11 +260,32 @@ static void replace(struct worker *w, unsigned queue)
 		put_command(w, &w->entries[w->count - 1], REGISTER);
 }
 
-/* Whether a request that failed with this error may succeed once files were forgotten: for space, a descriptor, or one
- * more file that the client may know. */
-static int waits_for_forgets(int error)
+/* Whether the reply to a request may be an error of earlier writes, which Linux reports once for each open file. A
+ * synchronous WRITE may have written its data besides. */
+static int reports_once(const struct entry *e, const struct fuse_in_header *asked, size_t record)
 {
-	return error == ENOSPC || error == EMFILE || error == ENFILE;
+	struct fuse_write_in written = { 0 };
+
+	switch (asked->opcode) {
+	case NIZWARF_FLUSH:
+	case NIZWARF_FSYNC:
+	case NIZWARF_FSYNCDIR:
+	case NIZWARF_SYNCFS:
+		return 1;
+	case NIZWARF_WRITE:
+		memcpy(&written, e->header->record, record < sizeof(written) ? record : sizeof(written));
+		return (written.flags & O_DSYNC) != 0;
+	default:
+		return 0;
+	}
+}
+
+/* Whether a request that failed with this error may succeed once files were forgotten: for space, a descriptor, or one
+ * more file that the client may know. Where ENOSPC is an error of earlier writes it would succeed too, but their data
+ * are lost. */
+static int waits_for_forgets(const struct entry *e, const struct fuse_in_header *asked, size_t record, int error)
+{
+	return error == EMFILE || error == ENFILE || (error == ENOSPC && !reports_once(e, asked, record));
 }
 
 /* Answers the request in an entry, or keeps both. 0, or -1: it said why.
@@ -286,7 +308,7 @@ static int answer(struct worker *w, struct entry *e)
 	if (asked.opcode == FUSE_STATFS)
 		fuse_device_drain(w->of->of);
 	len = serve_request(w, e, &asked, record, &reply);
-	if (len == HEAD && waits_for_forgets(-reply.error)) {
+	if (len == HEAD && waits_for_forgets(e, &asked, record, -reply.error)) {
 		fuse_device_drain(w->of->of);
 		len = serve_request(w, e, &asked, record, &reply);
 	}

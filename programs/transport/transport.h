@@ -135,7 +135,8 @@ typedef struct {
 	 * request whose reply is ENOSPC, EMFILE or ENFILE is served a second time, after the forgets that Linux
 	 * sent before it, because these may free space, descriptors and places for files. So a request that
 	 * fails with one of these must have changed nothing, neither the file system nor the second room, where
-	 * the data of a WRITE lie. */
+	 * the data of a WRITE lie. FLUSH, FSYNC, FSYNCDIR, SYNCFS and a WRITE with O_DSYNC or O_SYNC are not
+	 * repeated after ENOSPC, because this may be an error of earlier writes, which is reported once. */
 	int32_t (*serve)(void *user, unsigned worker, const struct iovec *request, size_t segments,
 			 const struct iovec *room, size_t rooms, size_t *len);
 } transport;

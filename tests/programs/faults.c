@@ -7,6 +7,7 @@
 #include <pthread.h>
 #include <signal.h>
 #include <stdarg.h>
+#include <stdatomic.h>
 #include <stdio.h>
 #include <stdlib.h>
 #include <string.h>
@@ -76,14 +77,36 @@ int prctl(int what, ...)
 	return OWN(prctl)(what, given[0], given[1], given[2], given[3]);
 }
 
+/* full_disk: what was written to a file does not fit on the disk, which is found out when the cache is written back. As Linux
+ * does, one call for an open file reports that, and the next one succeeds. Returns whether this call reports it. */
+static int is_full(int fd)
+{
+	static _Atomic ino_t reported;
+	struct stat is;
+
+	return fault_is("full_disk") && !fstat(fd, &is) && S_ISREG(is.st_mode) && is.st_size &&
+	       !(OWN(fcntl)(fd, F_GETFL) & O_PATH) && atomic_exchange(&reported, is.st_ino) != is.st_ino;
+}
+
+ssize_t pwrite(int fd, const void *data, size_t len, off_t at)
+{
+	const ssize_t written = OWN(pwrite)(fd, data, len, at);
+
+	return written >= 0 && OWN(fcntl)(fd, F_GETFL) & O_DSYNC && is_full(fd) ? fail(ENOSPC) : written;
+}
+
 /* slow_disk: what is to be on the disk takes a second until it is. */
 int fsync(int fd)
 {
+	if (is_full(fd))
+		return fail(ENOSPC);
 	return fault_is("slow_disk") ? take(1), 0 : OWN(fsync)(fd);
 }
 
 int fdatasync(int fd)
 {
+	if (is_full(fd))
+		return fail(ENOSPC);
 	return fault_is("slow_disk") ? take(1), 0 : OWN(fdatasync)(fd);
 }
 
@@ -250,9 +273,22 @@ static int is_late(int fd, off_t size)
 
 int close(int fd)
 {
+	const int full = is_full(fd);
+
 	if (is_late(fd, 4242))
 		take(3);
-	return OWN(close)(fd);
+	return OWN(close)(fd) ? -1 : full ? fail(ENOSPC) : 0;
+}
+
+/* full_table: the kernel has no file left for a moment, which is when the server opens `made` without O_CREAT, by this name or by
+ * its descriptor. (The name is that of a descriptor in /proc/self/fd if it is a number.) */
+static int is_refused(const char *name, int flags)
+{
+	static atomic_int refused[2];
+	const int is_name = !strcmp(name, "made");
+
+	return fault_is("full_table") && flags & O_PATH && (is_name || strspn(name, "0123456789")) &&
+	       !atomic_fetch_add(&refused[is_name], 1);
 }
 
 int openat(int directory, const char *name, int flags, ...)
@@ -267,6 +303,10 @@ int openat(int directory, const char *name, int flags, ...)
 		mode = va_arg(more, unsigned);
 	va_end(more);
 	fd = OWN(openat)(directory, name, flags, mode);
+	if (fd >= 0 && is_refused(name, flags)) {
+		OWN(close)(fd);
+		return fail(ENFILE);
+	}
 	if (fd >= 0 && (is_late(fd, 4243) || (flags & O_NOCTTY && is_late(fd, 4244) && !had_lock++)))
 		take(3);
 	return fd;

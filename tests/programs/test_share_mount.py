@@ -126,6 +126,64 @@ def test_a_file_that_came_after_its_missing_name_was_remembered_is_opened_by_who
     assert as_user(65534, path, os.O_RDWR | os.O_CREAT) == wanted
 
 
+# ---- requests that fail for want of space or of files, which are repeated over io_uring
+
+MAKE = {"MKDIR": os.mkdir, "MKNOD": os.mknod, "SYMLINK": lambda it: os.symlink("text", it), "FIFO": os.mkfifo,
+        "LINK": lambda it: os.link(it.parent / "file", it),
+        "CREATE": lambda it: os.close(os.open(it, os.O_CREAT | os.O_EXCL | os.O_RDWR)),
+        "TMPFILE": lambda it: os.close(os.open(it.parent, os.O_TMPFILE | os.O_RDWR))}
+
+
+def error_of(call, *arguments):
+    """The error's number of a call, or 0."""
+    try:
+        call(*arguments)
+    except OSError as failed:
+        return failed.errno
+    return 0
+
+
+@pytest.mark.parametrize("make", MAKE.values(), ids=MAKE)
+def test_what_is_made_while_the_kernel_has_no_file_left_is_made_once_or_not_at_all(share_mount, way, directory, fault, make):
+    (directory / "file").touch()
+    path = share_mount(environment=fault("full_table")).path
+    error = error_of(make, path / "made")
+    # (a node that is known is not opened, and so its LINK succeeds)
+    assert error == (0 if way == "io_uring" or make == MAKE["LINK"] else errno.ENFILE)
+    made = set() if error or make == MAKE["TMPFILE"] else {"made"}
+    assert set(os.listdir(directory)) == set(os.listdir(path)) == {"file"} | made
+
+
+@pytest.mark.parametrize("make", [MAKE["MKDIR"], MAKE["MKNOD"], MAKE["SYMLINK"], MAKE["CREATE"]],
+                         ids=["MKDIR", "MKNOD", "SYMLINK", "CREATE"])
+def test_what_is_made_and_cannot_be_removed_is_not_made_a_second_time(share_mount, directory, fault, make):
+    path = share_mount(environment=fault("full_table")).path
+    # (in such a directory names are made, and none is removed)
+    run("chattr", "+a", directory)
+    try:
+        assert error_of(make, path / "made") == errno.EIO
+        assert os.listdir(directory) == ["made"]
+    finally:
+        run("chattr", "-a", directory)
+
+
+@pytest.mark.parametrize("call", [os.fsync, os.fdatasync], ids=["fsync", "fdatasync"])
+def test_data_that_did_not_fit_on_the_disk_are_reported(share_mount, fault, call):
+    file = os.open(share_mount(environment=fault("full_disk")).path / "file", os.O_CREAT | os.O_RDWR)
+    os.write(file, b"data")
+    error = error_of(call, file)
+    os.close(file)
+    assert error == errno.ENOSPC
+
+
+def test_data_that_a_synchronous_write_appends_are_appended_once(share_mount, directory, fault):
+    path = share_mount(environment=fault("full_disk")).path / "file"
+    file = os.open(path, os.O_CREAT | os.O_WRONLY | os.O_APPEND | os.O_DSYNC)
+    error = error_of(os.write, file, b"data")
+    os.close(file)
+    assert (error, (directory / "file").read_text()) == (errno.ENOSPC, "data")
+
+
 # ---- what the server may do, and does
 
 @pytest.mark.parametrize("options, wanted", [
