@@ -587,7 +587,7 @@ int nizwarf_add_direntry_plus(nizwarf_dir *dir, const char *name, const nizwarf_
  *
  * Returns a code as nizwarf_serve_ops does, and the length of the reply in `*reply_len`.
  * NIZWARF_OUT_OF_MEMORY is returned only if the scratch memory is not the one that the request was served
- * with. If the entry or the handle did not reach the client, release and forget are called before this
+ * with, and NIZWARF_NULL if a pointer but `user` is NULL. If the entry or the handle did not reach the client, release and forget are called before this
  * function returns; so the program must not hold a lock that these take. */
 int32_t nizwarf_finish_ops(const nizwarf_ops *ops, void *user, nizwarf_scratch *scratch,
 			   const nizwarf_session *session, const nizwarf_call *call,
@@ -608,7 +608,8 @@ int32_t nizwarf_finish_ops(const nizwarf_ops *ops, void *user, nizwarf_scratch *
  * there is no reply, because the request was rejected or its reply does not fit: a virtio request must be
  * completed with length 0, but /dev/fuse needs a reply nevertheless, so write a header with EIO, or with
  * ENOMEM after NIZWARF_OUT_OF_MEMORY, as fuse_device.c does. After NIZWARF_OUT_OF_MEMORY no function was
- * called.
+ * called. NIZWARF_NULL is returned, and nothing is done, if a pointer is NULL; but `user` may be NULL, and so
+ * may `items` if `most` is 0.
  *
  * INIT and DESTROY change `session->options`. If an entry or a handle did not reach the client, release or
  * releasedir is called first, because it may need the node, and then forget. */

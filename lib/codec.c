@@ -237,7 +237,7 @@ static APART int32_t encode_parts(nizwarf_scratch *scratch, const nizwarf_sessio
 {
 	const nizwarf_dirent *items, *item;
 	const uint8_t *text;
-	size_t total;
+	size_t total, text_len, items_len;
 	int32_t code;
 
 	if (result)
@@ -250,20 +250,22 @@ static APART int32_t encode_parts(nizwarf_scratch *scratch, const nizwarf_sessio
 		return code;
 	if (total != call->reply_size)
 		return NIZWARF_BAD_CALL;
+	/* (with an error neither is read) */
+	text_len = answer->error ? 0 : answer->text_len;
+	items_len = answer->error ? 0 : answer->items_len;
 	/* (the pointers must not be NULL, even if there is no text and no entry) */
 	text = (const uint8_t *)answer;
 	items = (const nizwarf_dirent *)(const void *)answer;
-	if (answer->text_len)
+	if (text_len)
 		text = answer->text;
-	if (answer->items_len)
+	if (items_len)
 		items = answer->items;
 	if (!text || !items)
 		return NIZWARF_NULL;
-	for (item = items; item != items + answer->items_len; item++)
+	for (item = items; item != items + items_len; item++)
 		if (!item->name)
 			return NIZWARF_NULL;
-	code = nizwarf_encode_at(scratch, session, call, answer, text, answer->text_len, items,
-				 answer->items_len, result);
+	code = nizwarf_encode_at(scratch, session, call, answer, text, text_len, items, items_len, result);
 	if (code == NIZWARF_OK &&
 	    (answer->error > NIZWARF_MAX_ERRNO || is_cut(call, answer, result->entries) ||
 	     (!answer->error && call->reply == NIZWARF_REPLY_ERROR_OR_NONE &&

@@ -683,17 +683,55 @@ static int32_t answer_ops(const nizwarf_ops *ops, const nizwarf_req *req, nizwar
 	return code;
 }
 
+/* Returns the error of a deferred answer: that which replaces it if Linux would refuse it, as the functions above
+ * replace it where it is not deferred. */
+static int32_t error_of(const nizwarf_call *c, const nizwarf_answer *answer)
+{
+	const uint64_t space = c->reply_size < 16 ? 0 : c->reply_size - 16;
+	const uint64_t data = c->size < c->data.len ? c->size : c->data.len;
+
+	if (answer->error)
+		return answer->error;
+	switch (c->opcode) {
+	case NIZWARF_READLINK:
+		return answer->text_len > (size_t)NIZWARF_MAX_LINK ? EIO : 0;
+	case NIZWARF_GETXATTR:
+	case NIZWARF_LISTXATTR:
+		return answer->has_count || (answer->text_len <= c->size && answer->text_len <= space) ?
+			       0 :
+			       ERANGE;
+	case NIZWARF_IOCTL:
+		return answer->text_len > sizeof(nizwarf_ioctl) + c->size ? EIO : 0;
+	case NIZWARF_WRITE:
+		return answer->count > data ? EIO : 0;
+	case NIZWARF_COPY:
+	case NIZWARF_COPY_64:
+		return answer->count > c->length ? EIO : 0;
+	default:
+		return 0;
+	}
+}
+
 int32_t nizwarf_finish_ops(const nizwarf_ops *ops, void *user, nizwarf_scratch *scratch,
 			   const nizwarf_session *session, const nizwarf_call *call,
 			   const nizwarf_answer *answer, void *reply, size_t *reply_len)
 {
-	const struct iovec whole = { reply, (size_t)call->reply_size };
-	const nizwarf_session now = session_now(session);
 	const nizwarf_req req = { user, call, (const uint8_t *)"" };
+	struct iovec whole = { reply, 0 };
+	nizwarf_answer checked;
+	nizwarf_session now;
 	nizwarf_result result;
 	int32_t code;
 
-	code = reply_ops(ops, &req, scratch, &now, answer, &whole, &result);
+	if (reply_len)
+		*reply_len = 0;
+	if (!ops || !scratch || !session || !call || !answer || !reply || !reply_len)
+		return NIZWARF_NULL;
+	now = session_now(session);
+	whole.iov_len = (size_t)call->reply_size;
+	checked = *answer;
+	checked.error = error_of(call, answer);
+	code = reply_ops(ops, &req, scratch, &now, &checked, &whole, &result);
 	*reply_len = (size_t)result.len;
 	return code;
 }
@@ -711,8 +749,9 @@ int32_t nizwarf_serve_ops(const nizwarf_ops *ops, void *user, nizwarf_scratch *s
 	nizwarf_req req;
 	int32_t code;
 
-	*reply_len = 0;
-	if (!session)
+	if (reply_len)
+		*reply_len = 0;
+	if (!ops || !session || !reply_len || (most && !items))
 		return NIZWARF_NULL;
 	if (overlap(request, len, reply, reply_size))
 		return NIZWARF_BAD_CALL;

@@ -665,6 +665,10 @@ static void codes(void)
 	answer.items = &item;
 	CHECK(nizwarf_encode(&slot, &session, &call, &answer, &room, 1, &result) == NIZWARF_NULL);
 	answer = (nizwarf_answer){ .error = ENOENT };
+	/* (with an error no other field is read) */
+	answer.text_len = answer.items_len = 1;
+	CHECK(nizwarf_encode(&slot, &session, &call, &answer, &room, 1, &result) == NIZWARF_OK);
+	CHECK(result.len == 16 && u32(ours + 4) == (uint32_t)-ENOENT);
 	/* (the room is another than was asked with) */
 	CHECK(nizwarf_encode(&slot, &session, &call, &answer, NULL, 0, &result) == NIZWARF_BAD_CALL);
 	CHECK(nizwarf_encode(&slot, &session, &call, &answer, &room, 1, &result) == NIZWARF_OK);

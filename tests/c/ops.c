@@ -577,6 +577,81 @@ static void reported_errors(void)
 	table = &ops;
 }
 
+/* A deferred answer that Linux would refuse is replaced by an error, as one that is not deferred. */
+static void deferred_answers(void)
+{
+	static const struct {
+		uint32_t opcode, reply;
+		uint64_t reply_size, most;
+		int error;
+	} cases[] = {
+		{ NIZWARF_READLINK, NIZWARF_REPLY_BYTES, 8192, NIZWARF_MAX_LINK, EIO },
+		{ NIZWARF_GETXATTR, NIZWARF_REPLY_BYTES_OR_SIZE, 8192, 20, ERANGE },
+		{ NIZWARF_LISTXATTR, NIZWARF_REPLY_BYTES_OR_SIZE, 8192, 20, ERANGE },
+		/* (here the reply buffer is what limits it) */
+		{ NIZWARF_GETXATTR, NIZWARF_REPLY_BYTES_OR_SIZE, 16 + 19, 19, ERANGE },
+		{ NIZWARF_IOCTL, NIZWARF_REPLY_BYTES, 8192, sizeof(nizwarf_ioctl) + 20, EIO },
+		{ NIZWARF_WRITE, NIZWARF_REPLY_COUNT, 24, 10, EIO },
+		{ NIZWARF_COPY, NIZWARF_REPLY_COUNT, 24, 30, EIO },
+		{ NIZWARF_COPY_64, NIZWARF_REPLY_OFFSET, 24, 30, EIO },
+	};
+	static uint8_t text[8192];
+	size_t i, len;
+
+	for (i = 0; i < sizeof(cases) / sizeof(*cases); i++) {
+		const int is_text = cases[i].reply == NIZWARF_REPLY_BYTES ||
+				    cases[i].reply == NIZWARF_REPLY_BYTES_OR_SIZE;
+		nizwarf_answer answer = { .text = text };
+		const nizwarf_call call = { .opcode = cases[i].opcode,
+					    .reply = cases[i].reply,
+					    .reply_size = cases[i].reply_size,
+					    .unique = 7,
+					    .size = 20,
+					    .data = { 80, 10 },
+					    .length = 30 };
+
+		*(is_text ? &answer.text_len : &answer.count) = cases[i].most;
+		CHECK(nizwarf_finish_ops(&ops, said, &slot, &session, &call, &answer, ours, &len) == NIZWARF_OK);
+		CHECK(!u32(ours + 4) && len == 16 + (is_text ? cases[i].most : 8));
+		*(is_text ? &answer.text_len : &answer.count) += 1;
+		CHECK(nizwarf_finish_ops(&ops, said, &slot, &session, &call, &answer, ours, &len) == NIZWARF_OK);
+		CHECK(u32(ours + 4) == (uint32_t)-cases[i].error && len == 16);
+	}
+}
+
+/* A pointer that is NULL is told of, and nothing is done. */
+static void null_pointers(void)
+{
+	const nizwarf_answer answer = { 0 };
+	const nizwarf_call call = { .opcode = NIZWARF_UNLINK, .reply = NIZWARF_REPLY_STATUS, .reply_size = 16 };
+	nizwarf_session *s = &session;
+	nizwarf_dirent items[1];
+	size_t len = 1;
+
+	begin_with(NIZWARF_UNLINK, 2, "a", 2);
+	said[0] = 0;
+#define SERVE(ops, slot, session, request, reply, items, len) \
+	(nizwarf_serve_ops(ops, said, slot, session, request, request_len, reply, 4096, items, 1, len) == NIZWARF_NULL)
+	CHECK(SERVE(NULL, &slot, s, request, ours, items, &len) && !len);
+	CHECK(SERVE(&ops, NULL, s, request, ours, items, &len));
+	CHECK(SERVE(&ops, &slot, NULL, request, ours, items, &len));
+	CHECK(SERVE(&ops, &slot, s, NULL, ours, items, &len));
+	CHECK(SERVE(&ops, &slot, s, request, NULL, items, &len));
+	CHECK(SERVE(&ops, &slot, s, request, ours, NULL, &len));
+	CHECK(SERVE(&ops, &slot, s, request, ours, items, NULL));
+#define FINISH(ops, slot, session, call, answer, reply, len) \
+	(nizwarf_finish_ops(ops, said, slot, session, call, answer, reply, len) == NIZWARF_NULL)
+	len = 1;
+	CHECK(FINISH(NULL, &slot, s, &call, &answer, ours, &len) && !len);
+	CHECK(FINISH(&ops, NULL, s, &call, &answer, ours, &len));
+	CHECK(FINISH(&ops, &slot, NULL, &call, &answer, ours, &len));
+	CHECK(FINISH(&ops, &slot, s, NULL, &answer, ours, &len));
+	CHECK(FINISH(&ops, &slot, s, &call, NULL, ours, &len));
+	CHECK(FINISH(&ops, &slot, s, &call, &answer, NULL, &len));
+	CHECK(FINISH(&ops, &slot, s, &call, &answer, ours, NULL));
+	CHECK(!said[0]);
+}
+
 /* How many bytes were requested of a copy that copies them all. */
 static uint64_t copied;
 
@@ -752,6 +827,8 @@ int main(void)
 	ends();
 	wrong_answers();
 	reported_errors();
+	deferred_answers();
+	null_pointers();
 	long_copies();
 	no_memory();
 	overlaps();
