@@ -94,7 +94,7 @@ func (w *worker) serve(size int) []byte {
 	reply := C.struct_iovec{w.buffer, C.size_t(w.replySize)}
 	code := C.nizwarf_decode(&w.scratch, &w.session, features, &request, 1, &reply, 1, &w.call, &w.result)
 	if w.result.interrupts != 0 {
-		w.fs.Interrupt(uint64(w.result.interrupts))
+		w.quietly(func() error { w.fs.Interrupt(uint64(w.result.interrupts)); return nil })
 	}
 	if code == C.NIZWARF_CALL {
 		w.answer, w.entries, w.opened = C.nizwarf_answer{}, nil, false
@@ -119,14 +119,15 @@ func (w *worker) encode(reply *C.struct_iovec) C.int32_t {
 	code := C.nizwarf_encode(&w.scratch, &w.session, &w.call, &w.answer, reply, 1, &w.result)
 	if code != C.NIZWARF_OK && w.opened && w.answer.error == 0 {
 		file := &File{Handle: uint64(w.answer.handle), Flags: w.flags}
-		switch w.call.opcode {
-		case C.NIZWARF_OPENDIR:
-			w.number(w.fs.Releasedir(w.who, w.node, file))
-		case C.NIZWARF_OPEN:
-			w.number(w.fs.Release(w.who, w.node, file))
-		default:
-			w.number(w.fs.Release(w.who, uint64(w.answer.entry.node), file))
-		}
+		w.quietly(func() error {
+			switch w.call.opcode {
+			case C.NIZWARF_OPENDIR:
+				return w.fs.Releasedir(w.who, w.node, file)
+			case C.NIZWARF_OPEN:
+				return w.fs.Release(w.who, w.node, file)
+			}
+			return w.fs.Release(w.who, uint64(w.answer.entry.node), file)
+		})
 	}
 	lost := []C.uint64_t{w.result.forget}
 	for _, it := range w.entries[w.result.entries:] {
@@ -134,7 +135,7 @@ func (w *worker) encode(reply *C.struct_iovec) C.int32_t {
 	}
 	for _, node := range lost {
 		if node != 0 {
-			w.fs.Forget(w.who, uint64(node), 1)
+			w.forgetOne(uint64(node), 1)
 		}
 	}
 	if w.call.opcode == C.NIZWARF_INIT || w.call.opcode == C.NIZWARF_DESTROY {
@@ -273,13 +274,31 @@ func (w *worker) xattr(it []byte, err error) error {
 	return w.text(it, err)
 }
 
-// run calls the method for the request. A panic is an error, so that the process that waits gets a reply.
-func (w *worker) run() (err error) {
+// recovered calls a method. A panic is an error.
+func recovered(method func() error) (err error) {
 	defer func() {
 		if it := recover(); it != nil {
 			err = fmt.Errorf("panic: %v\n%s", it, debug.Stack())
 		}
 	}()
+	return method()
+}
+
+// quietly calls a method whose failure has no reply.
+func (w *worker) quietly(method func() error) {
+	w.number(recovered(method))
+}
+
+func (w *worker) forgetOne(node, count uint64) {
+	w.quietly(func() error { w.fs.Forget(w.who, node, count); return nil })
+}
+
+// run calls the method for the request. A panic is an error, so that the process that waits gets a reply.
+func (w *worker) run() error {
+	return recovered(w.dispatch)
+}
+
+func (w *worker) dispatch() error {
 	if int(w.call.opcode) < len(methods) && methods[w.call.opcode] != nil {
 		return methods[w.call.opcode](w)
 	}
@@ -365,13 +384,13 @@ func (w *worker) destroy() error {
 }
 
 func (w *worker) forget() error {
-	w.fs.Forget(w.who, w.node, w.length)
+	w.forgetOne(w.node, w.length)
 	return nil
 }
 
 func (w *worker) forgetMany() error {
 	for pairs := w.data; len(pairs) >= 16; pairs = pairs[16:] {
-		w.fs.Forget(w.who, binary.LittleEndian.Uint64(pairs), binary.LittleEndian.Uint64(pairs[8:]))
+		w.forgetOne(binary.LittleEndian.Uint64(pairs), binary.LittleEndian.Uint64(pairs[8:]))
 	}
 	return nil
 }

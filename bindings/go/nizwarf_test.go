@@ -245,6 +245,46 @@ func TestWhatLinuxWouldRefuseIsAnError(t *testing.T) {
 	}
 }
 
+// panics has methods without a reply that panic: Forget for node 5.
+type panics struct {
+	Default
+	forgot []uint64
+}
+
+func (p *panics) Interrupt(uint64) { panic("interrupt") }
+func (p *panics) Destroy()         { panic("destroy") }
+func (p *panics) Forget(r *Request, node, count uint64) {
+	if node == 5 {
+		panic("forget")
+	}
+	p.forgot = append(p.forgot, node)
+}
+func (p *panics) Release(*Request, uint64, *File) error { panic("release") }
+func (p *panics) Create(*Request, uint64, string, uint32, uint32) (Entry, Opened, error) {
+	return Entry{Node: 5}, Opened{Handle: 7}, nil
+}
+
+func TestAPanicOfAMethodWithoutAReplyEndsNothing(t *testing.T) {
+	p := &panics{}
+	k := begin(t, p, 0)
+	k.send(36, 0, pack(uint64(1)))                                                        // INTERRUPT
+	k.send(42, 0, pack(uint32(2), uint32(0), uint64(5), uint64(1), uint64(6), uint64(1))) // BATCH_FORGET
+	k.send(2, 5, pack(uint64(1)))                                                         // FORGET
+	k.call(17, Root, nil, 0)
+	w := newWorker(&server{fs: p, replySize: 20})
+	defer w.free()
+	request := pack(uint32(58), uint32(35), uint64(5), uint64(Root), uint64(0), uint32(3), uint32(0), uint64(0), uint64(0), "b\x00")
+	copy(w.requestBuffer(), request)
+	// (the reply does not fit: the file is released and its node forgotten)
+	if reply := w.serve(len(request)); !bytes.Equal(reply, fault(5, syscall.EIO)) {
+		t.Errorf("reply % x", reply)
+	}
+	k.init(0)
+	if fmt.Sprint(p.forgot) != "[6]" {
+		t.Error(p.forgot)
+	}
+}
+
 func TestWhatTheKernelDoesNotGetIsReleasedAndForgotten(t *testing.T) {
 	m := newMemory()
 	w := newWorker(&server{fs: m, replySize: 20})

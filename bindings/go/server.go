@@ -34,7 +34,9 @@ func Serve(fs FileSystem, device int) error {
 	s.start()
 	s.workers.Wait()
 	if s.options.Load() != 0 { // the kernel has not ended the session
-		fs.Destroy()
+		if err := recovered(func() error { fs.Destroy(); return nil }); err != nil {
+			log.Printf("nizwarf: %v", err)
+		}
 	}
 	return s.failure
 }

@@ -88,8 +88,9 @@ class _Reply:
         self.answer.count = self._at_most(most, value)
 
     def read(self, value: bytes) -> None:
+        value = bytes(value)
         self.answer.count = self._at_most(min(self.request.size, self.request.length), len(value))
-        self.data = bytes(value)
+        self.data = value
 
     def text(self, value: Any) -> None:
         self.answer.text, self.answer.text_len = bytes(value), len(bytes(value))
@@ -243,12 +244,17 @@ class _Server:
 
     def run(self, threads: int) -> None:
         """Serves requests by so many threads, of which this is one, until the end."""
-        others = [threading.Thread(target=self.work) for _ in range(threads - 1)]
-        for it in others:
-            it.start()
-        self.work()
-        for it in others:
-            it.join()
+        others: List[threading.Thread] = []
+        try:
+            for _ in range(threads - 1):
+                thread = threading.Thread(target=self.work)
+                thread.start()
+                others.append(thread)
+            self.work()
+        finally:  # (also if one cannot be started)
+            self.stop.set()
+            for it in others:
+                it.join()
         if self.options:  # (the kernel has not ended the session)
             self._quietly("destroy")
         if self.failures:

@@ -292,3 +292,26 @@ def test_a_mount_that_fails_says_where():
         mount(FileSystem(), "/none")
     assert caught.value.errno == errno.ENOENT and "/none" in str(caught.value)
     assert Attr.of_stat(os.stat("/")).mode == os.stat("/").st_mode
+
+
+def test_data_of_a_read_may_be_words():
+    with Kernel(Scripted(read=memoryview(b"abcdefgh").cast("I"))) as kernel:
+        assert kernel.ask(15, ROOT, READ) == b"abcdefgh"
+
+
+def test_the_other_threads_end_if_one_cannot_be_started(monkeypatch):
+    started, start = [], threading.Thread.start
+
+    def start_two(thread):
+        if len(started) == 2:
+            time.sleep(0.2)  # (the others wait for requests by then)
+            raise RuntimeError("can't start new thread")
+        started.append(thread)
+        start(thread)
+
+    monkeypatch.setattr(threading.Thread, "start", start_two)
+    peer = Peer()
+    with peer.socket, peer.theirs:
+        with pytest.raises(RuntimeError):
+            serve(Scripted(), peer.theirs.fileno(), threads=4)
+        assert not any(it.is_alive() for it in started)
