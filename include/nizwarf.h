@@ -231,8 +231,8 @@ enum {
 	NIZWARF_FEATURE_TMPFILE = 1 << 6,
 	/* NIZWARF_NOTIFY_REPLY, the reply to nizwarf_notice_retrieve. */
 	NIZWARF_FEATURE_NOTIFY_REPLY = 1 << 7,
-	/* Not an operation: the call of INIT has the client's extension options, and its answer may have a
-	 * nizwarf_init_params. */
+	/* Not an operation: the call of INIT has the client's extension options, and its answer may have
+	 * `init_params`. */
 	NIZWARF_FEATURE_INIT = 1 << 8,
 };
 
@@ -559,9 +559,8 @@ static inline uint64_t nizwarf_init_ext_flags(const nizwarf_call *call)
 	return call->other_offset;
 }
 
-/* Returns whether NIZWARF_FEATURE_INIT was among the features that the INIT was decoded with. If so, a `text`
- * of the answer that is as long as a nizwarf_init_params must be one. If not, `text` of the answer is
- * ignored, so that the reply is virtiofsd's. */
+/* Returns whether NIZWARF_FEATURE_INIT was among the features that the INIT was decoded with. If not,
+ * `init_params` of the answer are ignored, so that the reply is virtiofsd's. */
 static inline uint32_t nizwarf_init_takes_params(const nizwarf_call *call)
 {
 	return call->more;
@@ -591,7 +590,7 @@ enum {
 	/* `count`: how many bytes the program has stored in the reply buffer, after its first 16. It must not
 	 * exceed `size`, nor the result of nizwarf_read_max. */
 	NIZWARF_REPLY_DATA = 3,
-	/* `count`: set by nizwarf_answer_options. With the feature INIT also `text`: a nizwarf_init_params. */
+	/* `count`: set by nizwarf_answer_options. With the feature INIT also `init_params`. */
 	NIZWARF_REPLY_INIT = 4,
 	/* `entry` */
 	NIZWARF_REPLY_ENTRY = 5,
@@ -658,6 +657,27 @@ typedef struct {
 	int32_t error;
 } nizwarf_dirent;
 
+/* Further parameters of a session, for `init_params` of the answer to an INIT with the feature INIT.
+ *
+ * `want` has extension options (nizwarf_init_ext_flags): PASSTHROUGH (bit 37), for which `max_stack_depth` is
+ * the most file systems on top of one another, NO_EXPORT_SUPPORT (38), HAS_RESEND (39), OVER_IO_URING (41),
+ * and REQUEST_TIMEOUT (42), for which `request_timeout` is in seconds, at most 65535. Bits that the client
+ * does not support are ignored.
+ *
+ * For each other field 0 leaves the default, which is virtiofsd's. `max_readahead` and `max_write`, in bytes,
+ * can only make the default smaller; `max_write` is at least 4096. `max_background` and
+ * `congestion_threshold` limit the requests that the client has in flight in the background. `padding` must
+ * be 0. */
+typedef struct {
+	uint64_t want;
+	uint32_t max_readahead, max_write;
+	/* The granularity of file times in nanoseconds: a power of 10, up to 1000000000. */
+	uint32_t time_gran;
+	uint32_t max_stack_depth, request_timeout;
+	uint16_t max_background, congestion_threshold;
+	uint64_t padding;
+} nizwarf_init_params;
+
 /* The answer to a call. It must be initialised with NIZWARF_ANSWER_INIT.
  *
  * `error` is 0 or an error number from 1 to 511, the range that Linux accepts; any other number is replied as
@@ -672,6 +692,8 @@ typedef struct {
  *   - `text` is `text_len` bytes: the target of a link, the value of an attribute, a list of names, or a
  *     record. It is read during nizwarf_encode only.
  *   - `items` is an array of `items_len` directory entries, read during nizwarf_encode only.
+ *   - `init_params` are further parameters of a session, read during nizwarf_encode only. They are ignored
+ *     unless the INIT was decoded with NIZWARF_FEATURE_INIT.
  *   - `count`, `has_count`, `entry` and `statfs` are as the kind of the answer says. */
 typedef struct {
 	int32_t error;
@@ -685,6 +707,8 @@ typedef struct {
 	size_t text_len;
 	const nizwarf_dirent *items;
 	size_t items_len;
+	/* May be NULL, which leaves the defaults. */
+	const nizwarf_init_params *init_params;
 } nizwarf_answer;
 
 /* The record that the answer to an IOCTL begins with, laid out as fuse_ioctl_out of linux/fuse.h. `result` is
@@ -730,7 +754,7 @@ enum { NIZWARF_MAX_ERRNO = 511 };
 #define NIZWARF_ANSWER_INIT                                                                                  \
 	{                                                                                                    \
 		-1, 0, 0, 0, 0, 0, { 0, 0, 0, 0, 0, 0, { 0, 0, 0, 0, 0, 0, 0, 0, 0, 0, 0, 0, 0, 0, 0, 0 } }, \
-			{ 0, 0, 0, 0, 0, 0, 0, 0 }, 0, 0, 0, 0                                               \
+			{ 0, 0, 0, 0, 0, 0, 0, 0 }, 0, 0, 0, 0, 0                                            \
 	}
 
 /* Sets the options that the file system wants, for the answer to an INIT. Options that the client does not
@@ -756,28 +780,6 @@ static inline void nizwarf_answer_offset(nizwarf_answer *answer, uint64_t offset
 {
 	answer->count = offset;
 }
-
-/* Further parameters of a session, as `text` of the answer to an INIT with the feature INIT. `text_len` must
- * be the size of this struct.
- *
- * `want` has extension options (nizwarf_init_ext_flags): PASSTHROUGH (bit 37), for which `max_stack_depth` is
- * the most file systems on top of one another, NO_EXPORT_SUPPORT (38), HAS_RESEND (39), OVER_IO_URING (41),
- * and REQUEST_TIMEOUT (42), for which `request_timeout` is in seconds, at most 65535. Bits that the client
- * does not support are ignored.
- *
- * For each other field 0 leaves the default, which is virtiofsd's. `max_readahead` and `max_write`, in bytes,
- * can only make the default smaller; `max_write` is at least 4096. `max_background` and
- * `congestion_threshold` limit the requests that the client has in flight in the background. `padding` must
- * be 0. */
-typedef struct {
-	uint64_t want;
-	uint32_t max_readahead, max_write;
-	/* The granularity of file times in nanoseconds: a power of 10, up to 1000000000. */
-	uint32_t time_gran;
-	uint32_t max_stack_depth, request_timeout;
-	uint16_t max_background, congestion_threshold;
-	uint64_t padding;
-} nizwarf_init_params;
 
 /* Returns how many bytes a directory entry takes of the `size` of a READDIR: `name_size` counts the NUL, and
  * `plus` says whether the call has NIZWARF_PLUS. A program that adds these up can stop before the reply is
@@ -941,7 +943,7 @@ NIZWARF_HOLDS(sizeof(nizwarf_session) == 16 && sizeof(nizwarf_result) == 48);
 NIZWARF_HOLDS(sizeof(nizwarf_setattr) == 88 && sizeof(nizwarf_call) == 312);
 NIZWARF_HOLDS(sizeof(nizwarf_attr) == 88 && sizeof(nizwarf_entry) == 128);
 NIZWARF_HOLDS(sizeof(nizwarf_statfs) == 64 && sizeof(nizwarf_dirent) == 168);
-NIZWARF_HOLDS(sizeof(nizwarf_answer) == 256);
+NIZWARF_HOLDS(sizeof(nizwarf_answer) == 264);
 NIZWARF_HOLDS(sizeof(nizwarf_init_params) == 40);
 NIZWARF_HOLDS(sizeof(nizwarf_lock) == 24 && sizeof(nizwarf_ioctl) == 16 && sizeof(nizwarf_statx) == 288);
 #undef NIZWARF_HOLDS
@@ -951,7 +953,8 @@ NIZWARF_HOLDS(sizeof(nizwarf_lock) == 24 && sizeof(nizwarf_ioctl) == 16 && sizeo
  * The result must be zeroed before, except for its `options`, which must be those of the session for
  * nizwarf_decode_at, and those of the call for nizwarf_encode_at. `call->opcode` must be 0 for
  * nizwarf_decode_at. `features` has no NIZWARF_FEATURE_INIT. `reply_size` is the size of the reply buffer. Of
- * `answer` the first 224 bytes are read, because its text and entries are passed as arguments. After both
+ * `answer` the first 224 bytes are read, because its text and entries are passed as arguments, and its
+ * `init_params` to nizwarf_add_to_init_at. After both
  * functions the first `written` bytes of the reply must be copied into the reply buffer:
  * nizwarf_scratch_copy_at copies bytes from the position `at` on, as many as there are and `piece` can hold,
  * and returns how many.

@@ -190,13 +190,12 @@ static void put_changed(nizwarf_scratch *scratch, const nizwarf_call *call, cons
 			const struct iovec *reply, size_t reply_count, nizwarf_result *result)
 {
 	uint8_t bytes[NIZWARF_LONGEST_CHANGED];
-	nizwarf_init_params more;
 	size_t at = 0, i, len;
 
 	len = nizwarf_scratch_copy_at(scratch, 0, bytes, sizeof(bytes));
 	if (call->opcode == NIZWARF_INIT) {
-		memcpy(&more, answer->text, sizeof(more));
-		result->options |= nizwarf_add_to_init_at(bytes, len, nizwarf_init_ext_flags(call), &more);
+		result->options |= nizwarf_add_to_init_at(bytes, len, nizwarf_init_ext_flags(call),
+							  answer->init_params);
 	} else {
 		nizwarf_add_backing_at(bytes, len, (int32_t)answer->count);
 	}
@@ -214,7 +213,7 @@ static int is_changed(const nizwarf_session *session, const nizwarf_call *call, 
 	if (answer->error)
 		return 0;
 	if (call->opcode == NIZWARF_INIT)
-		return nizwarf_init_takes_params(call) && answer->text_len == sizeof(nizwarf_init_params);
+		return nizwarf_init_takes_params(call) && answer->init_params;
 	return (call->reply == NIZWARF_REPLY_OPEN || call->reply == NIZWARF_REPLY_CREATE) &&
 	       session->options & NIZWARF_PASSTHROUGH && answer->count;
 }

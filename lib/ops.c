@@ -12,6 +12,8 @@ struct nizwarf_dir {
 	/* The place for the next name, and the number of bytes that are left for records. */
 	uint8_t *names;
 	size_t left;
+	/* Not of a listing: the parameters of an INIT, until its answer is encoded. */
+	nizwarf_init_params params;
 };
 
 uint64_t nizwarf_served(const nizwarf_ops *ops, uint64_t options)
@@ -491,36 +493,31 @@ static int do_written(const nizwarf_ops *ops, const nizwarf_req *req, nizwarf_an
 }
 
 /* INIT, which returns the options that are wanted, and with `conn` other parameters too. */
-static int do_init(const nizwarf_ops *ops, const nizwarf_req *req, uint8_t *reply, size_t space,
+static int do_init(const nizwarf_ops *ops, const nizwarf_req *req, nizwarf_init_params *more,
 		   nizwarf_answer *answer)
 {
 	const uint64_t capable = nizwarf_init_capable(req->call), further = nizwarf_init_ext_flags(req->call);
 	const uint64_t high = UINT64_C(0xffffffff) << 32;
 	uint64_t want = capable & nizwarf_served(ops, NIZWARF_WANT_DEFAULT | NIZWARF_WANT_READDIRPLUS);
 	nizwarf_conn_info conn;
-	nizwarf_init_params more;
 	int error = 0;
 
 	if (ops->conn) {
 		memset(&conn, 0, sizeof(conn));
-		memset(&more, 0, sizeof(more));
+		memset(more, 0, sizeof(*more));
 		conn.capable = capable | further;
 		conn.want = want;
 		error = ops->conn(req, &conn);
 		want = conn.want;
-		more.want = conn.want & further;
-		more.max_readahead = conn.max_readahead;
-		more.max_write = conn.max_write;
-		more.time_gran = conn.time_gran;
-		more.max_stack_depth = conn.max_stack_depth;
-		more.request_timeout = conn.request_timeout;
-		more.max_background = conn.max_background;
-		more.congestion_threshold = conn.congestion_threshold;
-		if (space >= sizeof(more)) {
-			memcpy(reply, &more, sizeof(more));
-			answer->text = reply;
-			answer->text_len = sizeof(more);
-		}
+		more->want = conn.want & further;
+		more->max_readahead = conn.max_readahead;
+		more->max_write = conn.max_write;
+		more->time_gran = conn.time_gran;
+		more->max_stack_depth = conn.max_stack_depth;
+		more->request_timeout = conn.request_timeout;
+		more->max_background = conn.max_background;
+		more->congestion_threshold = conn.congestion_threshold;
+		answer->init_params = more;
 	} else if (ops->init) {
 		error = ops->init(req, capable, &want);
 	}
@@ -576,7 +573,7 @@ static int make_call(const nizwarf_ops *ops, const nizwarf_req *req, nizwarf_dir
 	case NIZWARF_REPLY_CREATE:
 		return do_open(ops, req, answer);
 	case NIZWARF_REPLY_INIT:
-		return do_init(ops, req, dir->names, dir->left, answer);
+		return do_init(ops, req, &dir->params, answer);
 	case NIZWARF_REPLY_DATA:
 	case NIZWARF_REPLY_BYTES:
 	case NIZWARF_REPLY_BYTES_OR_SIZE:

@@ -371,11 +371,14 @@ func (w *worker) init() error {
 	// (the library enables some options that are not wanted, unless the kernel seems not to support them)
 	C.nizwarf_init_keep(&w.call, C.uint64_t(it.Want))
 	C.nizwarf_answer_options(&w.answer, C.uint64_t(it.Want&capable))
-	params := C.nizwarf_init_params{want: C.uint64_t(it.Want & extension), max_readahead: C.uint32_t(it.MaxReadahead),
+	// (in memory of C, because the answer points to it)
+	params := (*C.nizwarf_init_params)(unsafe.Pointer(&w.body()[0]))
+	*params = C.nizwarf_init_params{want: C.uint64_t(it.Want & extension), max_readahead: C.uint32_t(it.MaxReadahead),
 		max_write: C.uint32_t(it.MaxWrite), time_gran: C.uint32_t(it.TimeGran),
 		max_stack_depth: C.uint32_t(it.MaxStackDepth), request_timeout: C.uint32_t(it.RequestTimeout),
 		max_background: C.uint16_t(it.MaxBackground), congestion_threshold: C.uint16_t(it.CongestionThreshold)}
-	return w.text(unsafe.Slice((*byte)(unsafe.Pointer(&params)), unsafe.Sizeof(params)), err)
+	w.answer.init_params = params
+	return err
 }
 
 func (w *worker) destroy() error {

@@ -379,12 +379,10 @@ static int read_init(fuse_req_t req, nizwarf_answer *answer, nizwarf_init_params
 		buffer = MOST_BUFFER;
 	__atomic_store_n(&codec_session_of(req->se)->sizes, (uint32_t)pagesize | buffer << 32,
 			 __ATOMIC_RELAXED);
-	/* Without parameters, the codec would send the values that virtiofsd sends. With a
-	 * nizwarf_init_params as the text of the answer, it sends these. */
+	/* Without parameters, the codec would send the values that virtiofsd sends. */
 	nizwarf_init_keep(call_of(req), flags);
 	nizwarf_answer_options(answer, flags);
-	answer->text = (const uint8_t *)params;
-	answer->text_len = sizeof(*params);
+	answer->init_params = params;
 	return 1;
 }
 

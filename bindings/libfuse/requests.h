@@ -530,7 +530,7 @@ static void on_init(fuse_req_t req, const nizwarf_call *c, const struct codec_me
 	 * otherwise. */
 	call_of(req)->other_offset = nizwarf_init_capable_at(
 		(const uint8_t *)m->in, m->len < NIZWARF_INIT_FRONT ? m->len : NIZWARF_INIT_FRONT);
-	/* This makes nizwarf_encode read the text of read_init as a nizwarf_init_params. */
+	/* This makes nizwarf_encode read the parameters of read_init (nizwarf_init_takes_params). */
 	call_of(req)->more = 1;
 	do_init(req, c->node, record);
 }

@@ -753,7 +753,7 @@ uint64_t wanted(const struct passthrough *all)
 static void want_further(const struct call *call)
 {
 	struct passthrough *all = call->all;
-	const nizwarf_init_params more = { .want = NIZWARF_PASSTHROUGH, .max_stack_depth = all->stack_depth };
+	nizwarf_init_params *more = &call->worker->init_params;
 
 	if (!all->backings)
 		return;
@@ -762,9 +762,8 @@ static void want_further(const struct call *call)
 			      "--passthrough: Linux has it from 6.9 on: files are served by requests");
 		return;
 	}
-	memcpy(call->worker->text, &more, sizeof(more));
-	call->answer->text = (const uint8_t *)call->worker->text;
-	call->answer->text_len = sizeof(more);
+	*more = (nizwarf_init_params){ .want = NIZWARF_PASSTHROUGH, .max_stack_depth = all->stack_depth };
+	call->answer->init_params = more;
 }
 
 /* INIT and DESTROY: what the client had goes, unless it has gone itself while the host did not answer: then it is the

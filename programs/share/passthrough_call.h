@@ -29,6 +29,8 @@ struct worker {
 	bool expects_new;
 	/* A text, as that of a symbolic link. */
 	char text[LONGEST_VALUE + 1];
+	/* Those of an INIT that is answered. */
+	nizwarf_init_params init_params;
 	nizwarf_dirent *items;
 	size_t items_size;
 	/* How many items have entries, from the first one on. */

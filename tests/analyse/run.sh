@@ -132,7 +132,7 @@ read_fields=$(sed -n '/-- fields of a call/,/-- the C files/s/^.*\b\(nizwarf_\w*
 # shellcheck disable=SC2086
 run fields prove fields headers.c cvc4 "$headers" $read_fields nizwarf_answer_options nizwarf_answer_backing \
     nizwarf_answer_offset nizwarf_keep_interrupt nizwarf_served seconds_of nanoseconds_of \
-    entry_of has_open_flags file_of
+    entry_of has_open_flags file_of error_of
 run worker evaluate worker entry.c "$queue $queue_here" -eva-precision 2 -eva-plevel 5000 -eva-partition-history 2 \
     -eva-mlevel 8 -eva-auto-loop-unroll 16 -eva-use-spec take_chain,mark
 run codecs evaluate codecs headers-entry.c "-I headers -I $here/include -I $here/lib" -main codecs -eva-precision 1 \

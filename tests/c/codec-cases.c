@@ -510,9 +510,9 @@ static void errors_of_dots(void)
 	}
 }
 
-/* The text of an INIT's answer is read where NIZWARF_FEATURE_INIT was among the offers of the ask, and nowhere else: the
- * reply is then that to the same answer without a text, which is virtiofsd's. */
-static void texts_of_init(void)
+/* The parameters of an INIT's answer are read where NIZWARF_FEATURE_INIT was among the offers of the ask, and nowhere else:
+ * the reply is then that to the same answer without them, which is virtiofsd's. */
+static void params_of_init(void)
 {
 	const struct fuse_init_in init = {
 		.major = 7, .minor = 45, .flags = FUSE_INIT_EXT, .flags2 = 1 << 7
@@ -526,8 +526,7 @@ static void texts_of_init(void)
 	uint8_t whole[80];
 	uint32_t offers;
 
-	answer.text = (const uint8_t *)&more;
-	answer.text_len = sizeof(more);
+	answer.init_params = &more;
 	begin_with(NIZWARF_INIT, 0, &init, sizeof(init));
 	piece.iov_base = request;
 	piece.iov_len = request_len;
@@ -547,10 +546,12 @@ static void texts_of_init(void)
 		if (offers == NIZWARF_FEATURE_INIT) {
 			memcpy(&out, ours + 16, sizeof(out));
 			CHECK(out.max_write == 8192 && out.time_gran == 1000 && out.max_background == 7);
-			/* (a text of another length is none) */
-			answer.text_len--;
+			/* (a text of this length is none) */
+			answer = (nizwarf_answer){ .count = FUSE_INIT_EXT,
+						   .text = (const uint8_t *)&more,
+						   .text_len = sizeof(more) };
 			CHECK(reply(&call, &answer, 9, &result) == NIZWARF_OK && !memcmp(ours, whole, 80));
-			answer.text_len++;
+			answer = (nizwarf_answer){ .count = FUSE_INIT_EXT, .init_params = &more };
 		}
 	}
 	session.options = 0;
@@ -805,7 +806,7 @@ int main(void)
 	open_flags();
 	wrong_items();
 	errors_of_dots();
-	texts_of_init();
+	params_of_init();
 	silences();
 	entries();
 	give_back();

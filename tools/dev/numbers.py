@@ -92,7 +92,7 @@ for opcode, name in re.findall(r'Opcode::(\w+) => "(\w+)"', read("crates/vfs_pri
 # ---- structs: each field, and that there is no other
 
 # Fields of the header that the binding leaves to its own types.
-OTHERS = {"nizwarf_answer": ["text", "text_len", "items", "items_len"]}
+OTHERS = {"nizwarf_answer": ["text", "text_len", "items", "items_len", "init_params"]}
 RUST_STRUCTS = {"RawSession": "nizwarf_session", "Range": "nizwarf_range", "RawCall": "nizwarf_call", "RawEntry": "nizwarf_entry",
                 "RawAnswer": "nizwarf_answer", "DirItem": "nizwarf_dirent", "RawInitParams": "nizwarf_init_params",
                 "RawResult": "nizwarf_result", "SetattrIn": "nizwarf_setattr", "Attr": "nizwarf_attr", "Statvfs": "nizwarf_statfs"}

@@ -126,7 +126,8 @@ EntryRecord = plain("nizwarf_entry", U64, "node generation entry_seconds attr_se
 Dirent = plain("nizwarf_dirent", U64, "ino offset", BYTES, "name", SIZE, "name_size", EntryRecord, "entry", U32, "type",
                I32, "error")
 Answer = plain("nizwarf_answer", I32, "error", U32, "has_handle", U64, "handle count", U32, "open_flags has_count",
-               EntryRecord, "entry", Statfs, "statfs", BYTES, "text", SIZE, "text_len", POINTER, "items", SIZE, "items_len")
+               EntryRecord, "entry", Statfs, "statfs", BYTES, "text", SIZE, "text_len", POINTER, "items", SIZE, "items_len",
+               POINTER, "init_params")
 IoctlResult = plain("nizwarf_ioctl", I32, "result", U32, "flags in_iovs out_iovs")
 # The result of statx(2). `mask` says which fields are filled in.
 StatxTime = plain("nizwarf_sx_time", I64, "tv_sec", U32, "tv_nsec", I32, "reserved")

@@ -59,6 +59,8 @@ class _Reply:
         self.request, self.answer, self.data = request, Answer(), b""
         self.entries: List[Any] = []
         self.opened: Optional[Opened] = None
+        # (the answer points to it)
+        self.connection: Optional[Connection] = None
 
     def nothing(self, value: None) -> None:
         pass
@@ -354,7 +356,7 @@ class _Server:
         # (the library enables some options that are not wanted, unless the kernel seems not to support them)
         request.length &= connection.want
         reply.answer.count, connection.want = request.length, connection.want & extension
-        reply.text(connection)
+        reply.connection, reply.answer.init_params = connection, ctypes.addressof(connection)
 
     def _list(self, reply: _Reply) -> None:
         """Lists a directory: entries until one does not fit, or until there are no more."""
