@@ -165,11 +165,11 @@ static int is_wrong(const nizwarf_dirent *item, int plus)
 	return plus && !is_dot && item->error > NIZWARF_MAX_ERRNO;
 }
 
-/* Returns whether a listing ends before an invalid directory entry. */
-static int is_cut(const nizwarf_call *call, const nizwarf_answer *answer, uint64_t taken)
+/* Returns whether a listing ends before an invalid directory entry. An answer with an error has none. */
+static int is_cut(const nizwarf_call *call, const nizwarf_dirent *items, size_t items_len, uint64_t taken)
 {
-	return call->reply == NIZWARF_REPLY_DIRECTORY && !answer->error && taken < answer->items_len &&
-	       is_wrong(&answer->items[taken], (call->has & NIZWARF_PLUS) != 0);
+	return call->reply == NIZWARF_REPLY_DIRECTORY && taken < items_len &&
+	       is_wrong(&items[taken], (call->has & NIZWARF_PLUS) != 0);
 }
 
 /* Encodes EIO in place of an answer that Linux would refuse. */
@@ -194,8 +194,8 @@ static void put_changed(nizwarf_scratch *scratch, const nizwarf_call *call, cons
 
 	len = nizwarf_scratch_copy_at(scratch, 0, bytes, sizeof(bytes));
 	if (call->opcode == NIZWARF_INIT) {
-		result->options |= nizwarf_add_to_init_at(bytes, len, nizwarf_init_ext_flags(call),
-							  answer->init_params);
+		result->options |=
+			nizwarf_add_to_init_at(bytes, len, nizwarf_init_ext_flags(call), answer->init_params);
 	} else {
 		nizwarf_add_backing_at(bytes, len, (int32_t)answer->count);
 	}
@@ -266,7 +266,7 @@ static APART int32_t encode_parts(nizwarf_scratch *scratch, const nizwarf_sessio
 			return NIZWARF_NULL;
 	code = nizwarf_encode_at(scratch, session, call, answer, text, text_len, items, items_len, result);
 	if (code == NIZWARF_OK &&
-	    (answer->error > NIZWARF_MAX_ERRNO || is_cut(call, answer, result->entries) ||
+	    (answer->error > NIZWARF_MAX_ERRNO || is_cut(call, items, items_len, result->entries) ||
 	     (!answer->error && call->reply == NIZWARF_REPLY_ERROR_OR_NONE &&
 	      call->opcode != NIZWARF_NOTIFY_REPLY)))
 		code = encode_error(scratch, session, call, result);

@@ -248,7 +248,7 @@ func TestWhatLinuxWouldRefuseIsAnError(t *testing.T) {
 // panics has methods without a reply that panic: Forget for node 5.
 type panics struct {
 	Default
-	forgot []uint64
+	forgot chan uint64
 }
 
 func (p *panics) Interrupt(uint64) { panic("interrupt") }
@@ -257,7 +257,7 @@ func (p *panics) Forget(r *Request, node, count uint64) {
 	if node == 5 {
 		panic("forget")
 	}
-	p.forgot = append(p.forgot, node)
+	p.forgot <- node
 }
 func (p *panics) Release(*Request, uint64, *File) error { panic("release") }
 func (p *panics) Create(*Request, uint64, string, uint32, uint32) (Entry, Opened, error) {
@@ -265,7 +265,7 @@ func (p *panics) Create(*Request, uint64, string, uint32, uint32) (Entry, Opened
 }
 
 func TestAPanicOfAMethodWithoutAReplyEndsNothing(t *testing.T) {
-	p := &panics{}
+	p := &panics{forgot: make(chan uint64, 1)}
 	k := begin(t, p, 0)
 	k.send(36, 0, pack(uint64(1)))                                                        // INTERRUPT
 	k.send(42, 0, pack(uint32(2), uint32(0), uint64(5), uint64(1), uint64(6), uint64(1))) // BATCH_FORGET
@@ -279,9 +279,8 @@ func TestAPanicOfAMethodWithoutAReplyEndsNothing(t *testing.T) {
 	if reply := w.serve(len(request)); !bytes.Equal(reply, fault(5, syscall.EIO)) {
 		t.Errorf("reply % x", reply)
 	}
-	k.init(0)
-	if fmt.Sprint(p.forgot) != "[6]" {
-		t.Error(p.forgot)
+	if node := <-p.forgot; node != 6 {
+		t.Error(node)
 	}
 }
 

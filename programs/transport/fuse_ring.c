@@ -283,7 +283,8 @@ static int reports_once(const struct entry *e, const struct fuse_in_header *aske
 /* Whether a request that failed with this error may succeed once files were forgotten: for space, a descriptor, or one
  * more file that the client may know. Where ENOSPC is an error of earlier writes it would succeed too, but their data
  * are lost. */
-static int waits_for_forgets(const struct entry *e, const struct fuse_in_header *asked, size_t record, int error)
+static int waits_for_forgets(const struct entry *e, const struct fuse_in_header *asked, size_t record,
+			     int error)
 {
 	return error == EMFILE || error == ENFILE || (error == ENOSPC && !reports_once(e, asked, record));
 }

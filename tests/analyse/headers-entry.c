@@ -293,14 +293,16 @@ static void encodes(void)
 	nizwarf_session session;
 	struct iovec reply[PIECES];
 	nizwarf_dirent items[PIECES];
+	nizwarf_init_params params;
 	nizwarf_answer answer;
 	nizwarf_call call;
 	nizwarf_result result;
 
 	ANY(session);
+	ANY(params);
 	/* (INIT apart from calls below and above it: by it alone options change, and Eva joins states that it
 	 * does not keep apart) */
-	ROUNDS(8) COUNTS for (int range = 0; range < 3; range++)
+	ROUNDS(9) COUNTS for (int range = 0; range < 3; range++)
 	{
 		any_reply(reply);
 		any_items(items);
@@ -312,6 +314,7 @@ static void encodes(void)
 		answer.text_len = count ? Frama_C_unsigned_long_interval(1, LONGEST) : 0;
 		answer.items = OR_NULL(8, items);
 		answer.items_len = count;
+		answer.init_params = OR_NULL(9, &params);
 		nizwarf_encode(OR_NULL(1, &scratch), OR_NULL(2, &session), OR_NULL(3, &call),
 			       OR_NULL(4, &answer), OR_NULL(5, reply), PIECES - count, OR_NULL(6, &result));
 	}

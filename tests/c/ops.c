@@ -611,10 +611,12 @@ static void deferred_answers(void)
 					    .length = 30 };
 
 		*(is_text ? &answer.text_len : &answer.count) = cases[i].most;
-		CHECK(nizwarf_finish_ops(&ops, said, &slot, &session, &call, &answer, ours, &len) == NIZWARF_OK);
+		CHECK(nizwarf_finish_ops(&ops, said, &slot, &session, &call, &answer, ours, &len) ==
+		      NIZWARF_OK);
 		CHECK(!u32(ours + 4) && len == 16 + (is_text ? cases[i].most : 8));
 		*(is_text ? &answer.text_len : &answer.count) += 1;
-		CHECK(nizwarf_finish_ops(&ops, said, &slot, &session, &call, &answer, ours, &len) == NIZWARF_OK);
+		CHECK(nizwarf_finish_ops(&ops, said, &slot, &session, &call, &answer, ours, &len) ==
+		      NIZWARF_OK);
 		CHECK(u32(ours + 4) == (uint32_t)-cases[i].error && len == 16);
 	}
 }
@@ -623,15 +625,18 @@ static void deferred_answers(void)
 static void null_pointers(void)
 {
 	const nizwarf_answer answer = { 0 };
-	const nizwarf_call call = { .opcode = NIZWARF_UNLINK, .reply = NIZWARF_REPLY_STATUS, .reply_size = 16 };
+	const nizwarf_call call = { .opcode = NIZWARF_UNLINK,
+				    .reply = NIZWARF_REPLY_STATUS,
+				    .reply_size = 16 };
 	nizwarf_session *s = &session;
 	nizwarf_dirent items[1];
 	size_t len = 1;
 
 	begin_with(NIZWARF_UNLINK, 2, "a", 2);
 	said[0] = 0;
-#define SERVE(ops, slot, session, request, reply, items, len) \
-	(nizwarf_serve_ops(ops, said, slot, session, request, request_len, reply, 4096, items, 1, len) == NIZWARF_NULL)
+#define SERVE(ops, slot, session, request, reply, items, len)                                             \
+	(nizwarf_serve_ops(ops, said, slot, session, request, request_len, reply, 4096, items, 1, len) == \
+	 NIZWARF_NULL)
 	CHECK(SERVE(NULL, &slot, s, request, ours, items, &len) && !len);
 	CHECK(SERVE(&ops, NULL, s, request, ours, items, &len));
 	CHECK(SERVE(&ops, &slot, NULL, request, ours, items, &len));
