@@ -47,7 +47,7 @@ union beside {
 /* Says on standard error what failed, and why by errno, and answers -1. */
 static int say(const transport *by, const char *what)
 {
-	transport_say(by->program, "passthrough: %s: %s", what, strerror(errno));
+	transport_say(by->program, "--passthrough: cannot %s: %s", what, strerror(errno));
 	return -1;
 }
 
@@ -170,7 +170,7 @@ static _Noreturn void name_files(const transport *by, int device, int socket, in
 	signal(SIGHUP, SIG_IGN);
 	prctl(PR_SET_NAME, "nizwarf-backing");
 	if (getrlimit(RLIMIT_NOFILE, &files) || chdir("/") || keep_capability()) {
-		say(by, "what names files");
+		say(by, "start the process that registers files");
 		_exit(1);
 	}
 	most_named = files.rlim_cur;
@@ -190,11 +190,11 @@ int fuse_backing_start(const transport *by, int device, int (*limit)(void *user)
 
 	/* (one that keeps messages apart: each is there wholly or not, and its descriptor with it) */
 	if (socketpair(AF_UNIX, SOCK_SEQPACKET | SOCK_CLOEXEC, 0, ends))
-		return say(by, "a socket");
+		return say(by, "create a socket pair");
 	/* (it answers soon, or never) */
 	if (setsockopt(ends[0], SOL_SOCKET, SO_RCVTIMEO, &patience, sizeof(patience)) ||
 	    setsockopt(ends[0], SOL_SOCKET, SO_SNDTIMEO, &patience, sizeof(patience)))
-		return say(by, "a socket");
+		return say(by, "set the timeouts of a socket");
 	child = fork();
 	if (child < 0)
 		return say(by, "fork");

@@ -143,7 +143,7 @@ struct device {
 /* Says what failed, as errno has it: -1. */
 static int say(const transport *by, const char *what)
 {
-	transport_say(by->program, "%s: %s", what, strerror(errno));
+	transport_say(by->program, "cannot %s: %s", what, strerror(errno));
 	return -1;
 }
 
@@ -160,7 +160,8 @@ size_t fuse_device_refuse(const transport *by, const struct fuse_in_header *aske
 {
 	struct fuse_out_header reply = { .len = sizeof(reply), .unique = asked->unique };
 
-	transport_say(by->program, "outcome %d of opcode %u", (int)code, (unsigned)asked->opcode);
+	transport_say(by->program, "request with opcode %u failed: code %d of nizwarf.h",
+		      (unsigned)asked->opcode, (int)code);
 	if (asked->opcode == FUSE_FORGET || asked->opcode == FUSE_BATCH_FORGET ||
 	    asked->opcode == FUSE_INTERRUPT || asked->opcode == FUSE_NOTIFY_REPLY)
 		return 0;
@@ -187,7 +188,7 @@ static void tell(const struct device *d, int event)
 	const uint64_t one = 1;
 
 	if (write(event, &one, sizeof(one)) < 0)
-		say(d->by, "eventfd");
+		say(d->by, "write to an eventfd");
 }
 
 /* Calls one that rests, if one does: as many are wanted from now on. */
@@ -462,8 +463,8 @@ static int put_or_refuse(struct worker *w, const struct fuse_in_header *asked, s
 	/* ENOENT: who asked no longer waits. ENODEV: nobody does. */
 	if (errno == ENOENT || errno == ENODEV)
 		return 0;
-	transport_say(w->of->by->program, "the reply to opcode %u is refused: %s", (unsigned)asked->opcode,
-		      strerror(errno));
+	transport_say(w->of->by->program, "the kernel refused the reply to opcode %u: %s",
+		      (unsigned)asked->opcode, strerror(errno));
 	return write(w->fd, &reply, sizeof(reply)) < 0 && errno != ENOENT && errno != ENODEV ? -1 : 0;
 }
 
@@ -579,7 +580,7 @@ static void start_rings(struct worker *w, int offered, int32_t code, size_t len)
 	}
 	atomic_store(&d->rings, rings);
 	if (!rings && by->wants_ring)
-		transport_say(by->program, "Linux offers no io_uring here: requests come by read(2)");
+		transport_say(by->program, "io_uring is not available: falling back to read(2) and write(2)");
 }
 
 /* What is kept of a request that is answered later. */
@@ -601,11 +602,11 @@ static void send_kept(void *about, int32_t code, const void *reply, size_t len)
 	}
 	if (!len || write(kept->fd, reply, len) >= 0 || errno == ENOENT || errno == ENODEV)
 		return;
-	transport_say(kept->by->program, "the reply to opcode %u is refused: %s",
+	transport_say(kept->by->program, "the kernel refused the reply to opcode %u: %s",
 		      (unsigned)kept->asked.opcode, strerror(errno));
 	refused = (struct fuse_out_header){ sizeof(refused), -EIO, kept->asked.unique };
 	if (write(kept->fd, &refused, sizeof(refused)) < 0 && errno != ENOENT && errno != ENODEV)
-		say(kept->by, "write");
+		say(kept->by, "write to /dev/fuse");
 }
 
 /* Hands a request to `serve`, which may keep it. Answers whether it does. */
@@ -678,10 +679,12 @@ static enum outcome serve_one(struct worker *w, uint32_t *opcode)
 		return ENDED;
 	/* ENOENT: who asked has been interrupted before it was read. */
 	if (got < 0)
-		return errno == EAGAIN || errno == EINTR || errno == ENOENT ? SERVED : failed(w, "read");
+		return errno == EAGAIN || errno == EINTR || errno == ENOENT ?
+			       SERVED :
+			       failed(w, "read from /dev/fuse");
 	if ((size_t)got < sizeof(asked)) {
 		errno = EPROTO;
-		return failed(w, "read");
+		return failed(w, "read from /dev/fuse");
 	}
 	memcpy(&asked, w->request, sizeof(asked));
 	*opcode = asked.opcode;
@@ -707,7 +710,7 @@ static enum outcome serve_one(struct worker *w, uint32_t *opcode)
 	if (!len && w->piped)
 		close_pipe(w);
 	if (len && put_or_refuse(w, &asked, len))
-		return failed(w, "write");
+		return failed(w, "write to /dev/fuse");
 	if (asked.opcode == FUSE_INIT && code == NIZWARF_OK)
 		let_notify(by, w->of->worker[0].fd);
 	return SERVED;
@@ -739,7 +742,7 @@ static int start(struct device *d, unsigned number, int fd)
 	if (memory && fd >= 0 && !(errno = pthread_create(&w->thread, NULL, run, w)))
 		return 0;
 	atomic_fetch_sub(&d->active, 1);
-	say(d->by, "a worker");
+	say(d->by, "start a worker");
 	close_pipe(w);
 	free(memory);
 	if (fd >= 0)
@@ -1064,7 +1067,7 @@ static int await_signals(void)
 /* Ends the process, although a worker waits for what does not come. */
 static _Noreturn void leave(struct device *d)
 {
-	transport_say(d->by->program, "a %s does not come back: it ends without",
+	transport_say(d->by->program, "exiting although a %s is still blocked",
 		      is_answering(d) ? "request" : "worker");
 	if (d->folder && atomic_load(&d->failed))
 		fuse_device_detach(d->by, d->folder);
@@ -1136,7 +1139,7 @@ int fuse_device_serve(const transport *by, int device, const char *folder)
 		if (d->made)
 			by->ring->end(d->made);
 	} else {
-		say(by, "signalfd and eventfd");
+		say(by, "create a signalfd or an eventfd");
 		if (by->rings)
 			by->ring->end(by->rings);
 		close(device);

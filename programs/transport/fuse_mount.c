@@ -18,9 +18,9 @@
 #include "transport.h"
 
 /* Says on standard error what failed, and why by errno, and answers -1. */
-static int say(const transport *by, const char *what)
+static int say(const transport *by, const char *action, const char *path)
 {
-	transport_say(by->program, "%s: %s", what, strerror(errno));
+	transport_say(by->program, "cannot %s '%s': %s", action, path, strerror(errno));
 	return -1;
 }
 
@@ -82,7 +82,7 @@ static int is_there(const transport *by, const char *folder)
 		return 1;
 	if (there == made.above)
 		return 0;
-	transport_say(by->program, "%s: another file system is mounted there", folder);
+	transport_say(by->program, "cannot unmount '%s': another file system is mounted there", folder);
 	return -1;
 }
 
@@ -105,8 +105,8 @@ int fuse_device_unmount(const transport *by, const char *folder)
 	if (!unmount(point, 0))
 		return 0;
 	if (errno != EBUSY || unmount(point, MNT_DETACH))
-		return say(by, folder);
-	transport_say(by->program, "%s is in use, and goes with its last user", folder);
+		return say(by, "unmount", folder);
+	transport_say(by->program, "'%s' is in use: it is unmounted once nobody uses it", folder);
 	return 0;
 }
 
@@ -122,7 +122,7 @@ int fuse_device_open(const transport *by)
 {
 	const int device = open("/dev/fuse", O_RDWR | O_CLOEXEC);
 
-	return device < 0 ? say(by, "/dev/fuse") : device;
+	return device < 0 ? say(by, "open", "/dev/fuse") : device;
 }
 
 /* The options name the device by its number; `rootmode` is that the root is a directory, in octal; and the
@@ -143,7 +143,7 @@ int fuse_device_mount_on(const transport *by, int device, const char *source, co
 	errno = E2BIG;
 	if (len < 0 || (size_t)len >= sizeof(words) ||
 	    mount(source, mount_point(folder, place, sizeof(place)), type, flags, words))
-		return say(by, folder);
+		return say(by, "mount on", folder);
 	if (made.directory >= 0)
 		made.own = number_of_mount(made.directory, made.name);
 	return 0;

@@ -58,7 +58,7 @@ int guard_begin(const char *program, void (*leave)(void))
 		errno = pthread_create(&guard.thread, NULL, keep_guard, &guard);
 	if (guard.signals >= 0 && guard.done >= 0 && !errno)
 		return 0;
-	transport_say(program, "what waits for signals: %s", strerror(errno));
+	transport_say(program, "cannot start the thread that waits for signals: %s", strerror(errno));
 	return -1;
 }
 

@@ -65,7 +65,7 @@ static struct bytes gather(const struct iovec *piece, size_t pieces, size_t most
  * the same. */
 static void put_line(char *line)
 {
-	fprintf(stderr, "%s\n", line ? line : "(no memory for a line of the trace)");
+	fprintf(stderr, "%s\n", line ? line : "(out of memory for a line of the trace)");
 	free(line);
 }
 
@@ -151,7 +151,7 @@ static void record(const struct bytes *request, size_t room, int32_t code, const
 	}
 	putc('\n', file);
 	if ((fflush(file) || ferror(file)) && !is_told) {
-		fprintf(stderr, "%s: the trace is not whole: %s\n", of.program, strerror(errno));
+		fprintf(stderr, "%s: the trace is incomplete: %s\n", of.program, strerror(errno));
 		is_told = true;
 	}
 	funlockfile(file);
@@ -199,7 +199,7 @@ static void tell(const struct bytes *request, const struct iovec *room, size_t r
 	else if (file)
 		record(request, space, code, &reply);
 	else if (code == NIZWARF_CALL)
-		fputs("-> answered later\n", stderr);
+		fputs("-> replied later\n", stderr);
 	else if (code != NIZWARF_OK)
 		fprintf(stderr, "-> refused=%s\n", name_of(code));
 	else
@@ -236,7 +236,7 @@ int trace_begin(transport *by, const char *path)
 	const int fd = path ? open(path, O_WRONLY | O_CREAT | O_EXCL | O_CLOEXEC, 0600) : -1;
 
 	if (path && (fd < 0 || !(file = fdopen(fd, "w")))) {
-		fprintf(stderr, "%s: %s: %s\n", by->program, path, strerror(errno));
+		fprintf(stderr, "%s: cannot create '%s': %s\n", by->program, path, strerror(errno));
 		if (fd >= 0)
 			close(fd);
 		return -1;

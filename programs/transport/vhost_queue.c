@@ -98,10 +98,10 @@ enum { OUTCOMES = 32 };
 enum fault { NO_FAULT, BAD_CHAIN, BAD_QUEUE, BAD_CALL, BAD_LOG_EVENT, FAULTS };
 static atomic_ulong outcomes[OUTCOMES], faults[FAULTS];
 static const char *const fault_names[FAULTS] = {
-	[BAD_CHAIN] = "malformed chains of a queue",
+	[BAD_CHAIN] = "malformed descriptor chains",
 	[BAD_QUEUE] = "queues stopped because their rings are invalid",
-	[BAD_CALL] = "calls of a queue that cannot be written",
-	[BAD_LOG_EVENT] = "events of the log that cannot be written",
+	[BAD_CALL] = "call descriptors of a queue that cannot be written",
+	[BAD_LOG_EVENT] = "log descriptors that cannot be written",
 };
 
 /* The transport, and its workers, which the calling thread alone starts and joins. Each of these knows
@@ -114,7 +114,7 @@ static _Thread_local const struct worker *this_worker;
 /* Says on standard error what failed, and why by errno, and returns -1. */
 static int failed(const char *what)
 {
-	transport_say(by->program, "%s: %s", what, strerror(errno));
+	transport_say(by->program, "cannot %s: %s", what, strerror(errno));
 	return -1;
 }
 
@@ -122,7 +122,8 @@ static int failed(const char *what)
 static void note(enum fault fault)
 {
 	if (fault && !atomic_fetch_add(&faults[fault], 1) && fault != BAD_CHAIN)
-		transport_say(by->program, "the guest or its front end broke a rule: %s", fault_names[fault]);
+		transport_say(by->program, "protocol violation by the guest or its front end: %s",
+			      fault_names[fault]);
 }
 
 /* Wakes who waits for an event of ours. None is ever full: it would take 2^64 - 2 calls. A signal's handler
@@ -132,7 +133,7 @@ static void tell(int event)
 	const uint64_t one = 1;
 
 	if (write(event, &one, sizeof(one)) < 0)
-		failed("eventfd");
+		failed("write to an eventfd");
 }
 
 /* ---- what is written, by workers: it is marked after the writing, since who reads the marks takes them away first */
@@ -732,7 +733,7 @@ static void *run(void *given)
 		if (got < 0 && errno == EINTR)
 			continue;
 		if (got < 0) {
-			failed("epoll_wait");
+			failed("wait for events");
 			tell(over);
 			break;
 		}
@@ -958,14 +959,14 @@ void guest_unshare(struct guest *g)
 	while (g->regions > 0) {
 		g->regions--;
 		if (munmap(g->region[g->regions].map, g->region[g->regions].mapped))
-			failed("munmap");
+			failed("unmap a memory region");
 	}
 }
 
 void guest_unmap_log(struct guest *g)
 {
 	if (g->log.at && munmap(g->log.map, g->log.mapped))
-		failed("munmap");
+		failed("unmap the dirty log");
 	g->log.at = g->log.map = NULL;
 	g->log.mapped = 0;
 }
@@ -998,9 +999,9 @@ void queues_tell(void)
 		if (!count || by->quiet)
 			continue;
 		if (i == NIZWARF_OK)
-			transport_say(by->program, "%lu requests answered", count);
+			transport_say(by->program, "%lu requests served", count);
 		else
-			transport_say(by->program, "%lu malformed or failed requests (code %d of nizwarf.h)",
+			transport_say(by->program, "%lu requests malformed or failed: code %d of nizwarf.h",
 				      count, i);
 	}
 	for (int i = 0; i < FAULTS; i++) {
@@ -1055,7 +1056,7 @@ static int make_events(void)
 	lost = eventfd(0, EFD_CLOEXEC | EFD_NONBLOCK);
 	if (!vhost_guest || events < 0 || stop < 0 || over < 0 || lost < 0 ||
 	    epoll_ctl(events, EPOLL_CTL_ADD, stop, &stops))
-		return failed("eventfd");
+		return failed("set up the queues");
 	return 0;
 }
 
@@ -1069,7 +1070,7 @@ static int start_worker(void)
 		w->number = started;
 	if (!w || (errno = pthread_create(&w->thread, NULL, run, w))) {
 		free(w);
-		return failed("a worker");
+		return failed("start a worker");
 	}
 	workers[started++] = w;
 	return 0;
@@ -1120,7 +1121,7 @@ static int leave_guest(void)
 	unsigned are_free = 0;
 
 	if (!next)
-		return failed("a front end");
+		return failed("accept another front end");
 	next->client = gone->client + 1;
 	/* (what it is kicked by is closed with it, and wakes nobody meanwhile) */
 	for (int i = 0; i < QUEUES; i++)

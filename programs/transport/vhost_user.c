@@ -104,14 +104,14 @@ enum outcome { DONE, REPLIED, GONE };
 /* Says on standard error what failed, and why by errno, and returns -1. */
 static int failed(const char *what)
 {
-	transport_say(by->program, "%s: %s", what, strerror(errno));
+	transport_say(by->program, "cannot %s: %s", what, strerror(errno));
 	return -1;
 }
 
 /* Says why the front end is disconnected. */
 static enum outcome wrong(const char *what)
 {
-	transport_say(by->program, "disconnecting the front end: %s", what);
+	transport_say(by->program, "disconnecting: %s", what);
 	return GONE;
 }
 
@@ -119,26 +119,26 @@ static enum outcome wrong(const char *what)
 static enum outcome refused(const struct message *m, uint32_t refusal)
 {
 	static const char *const whys[VHOST_REFUSALS] = {
-		[VHOST_CUT] = "a message that is cut",
-		[VHOST_WRONG_VERSION] = "a message of another version",
-		[VHOST_IS_REPLY] = "a reply, which nobody asked for",
-		[VHOST_WRONG_SIZE] = "a message of another size",
-		[VHOST_WRONG_DESCRIPTORS] = "descriptors that are missing, or too many",
-		[VHOST_NOT_OFFERED] = "a feature that was not offered",
-		[VHOST_NO_QUEUE] = "a queue above those that GET_QUEUE_NUM told of",
-		[VHOST_WRONG_QUEUE_SIZE] = "a size of a queue that can't be",
-		[VHOST_WRONG_BASE] = "an index of a ring that can't be",
-		[VHOST_WRONG_ENABLE] = "a queue that is neither enabled nor disabled",
-		[VHOST_LOGS] = "flags of a ring that can't be",
-		[VHOST_MISALIGNED] = "a ring that is not aligned",
-		[VHOST_WRONG_COUNT] = "a table of memory that can't be",
-		[VHOST_EMPTY_REGION] = "a region of memory that is empty",
-		[VHOST_GUEST_RANGE] = "a region past the guest's addresses",
-		[VHOST_USER_RANGE] = "a region past the front end's addresses",
-		[VHOST_FILE_RANGE] = "a region past the end of any file",
-		[VHOST_OVERLAP] = "two regions of the same memory",
-		[VHOST_WRONG_LOG] = "a log that can't be",
-		[VHOST_WRONG_TRANSFER] = "a state that goes no way that is known",
+		[VHOST_CUT] = "truncated message",
+		[VHOST_WRONG_VERSION] = "unsupported message version",
+		[VHOST_IS_REPLY] = "unexpected reply",
+		[VHOST_WRONG_SIZE] = "invalid message size",
+		[VHOST_WRONG_DESCRIPTORS] = "invalid number of descriptors",
+		[VHOST_NOT_OFFERED] = "unsupported feature",
+		[VHOST_NO_QUEUE] = "invalid queue index",
+		[VHOST_WRONG_QUEUE_SIZE] = "invalid queue size",
+		[VHOST_WRONG_BASE] = "invalid ring index",
+		[VHOST_WRONG_ENABLE] = "invalid value of SET_VRING_ENABLE",
+		[VHOST_LOGS] = "unsupported ring flags",
+		[VHOST_MISALIGNED] = "misaligned ring",
+		[VHOST_WRONG_COUNT] = "invalid number of memory regions",
+		[VHOST_EMPTY_REGION] = "empty memory region",
+		[VHOST_GUEST_RANGE] = "memory region exceeds the guest's address space",
+		[VHOST_USER_RANGE] = "memory region exceeds the front end's address space",
+		[VHOST_FILE_RANGE] = "memory region exceeds the largest file offset",
+		[VHOST_OVERLAP] = "overlapping memory regions",
+		[VHOST_WRONG_LOG] = "invalid dirty log",
+		[VHOST_WRONG_TRANSFER] = "unsupported transfer of the device state",
 	};
 	const char *why = refusal < VHOST_REFUSALS ? whys[refusal] : NULL;
 	uint32_t request;
@@ -147,7 +147,7 @@ static enum outcome refused(const struct message *m, uint32_t refusal)
 	if (why)
 		return wrong(why);
 	memcpy(&request, m->head, sizeof(request));
-	transport_say(by->program, "disconnecting the front end: unsupported message %u", (unsigned)request);
+	transport_say(by->program, "disconnecting: unsupported vhost-user message %u", (unsigned)request);
 	return GONE;
 }
 
@@ -179,10 +179,10 @@ static enum outcome share_region(const struct vhost_region *shared, int descript
 	struct stat file;
 
 	if (fstat(descriptor, &file) || file.st_size < 0 || (uint64_t)file.st_size < len)
-		return wrong("a region without its memory");
+		return wrong("memory region exceeds its file");
 	r->map = map_file(descriptor, len, &r->mapped);
 	if (!r->map)
-		return wrong("a region that can't be mapped");
+		return wrong("cannot map a memory region");
 	r->at = r->map + shared->offset;
 	vhost_guest->shared[vhost_guest->regions] = (nizwarf_region){ shared->guest, shared->size };
 	vhost_guest->vhost_regions[vhost_guest->regions++] = *shared;
@@ -215,10 +215,10 @@ static enum outcome share_log(const struct message *m)
 	size_t mapped;
 
 	if (fstat(m->descriptor[0], &file) || file.st_size < 0 || (uint64_t)file.st_size < len)
-		return wrong("a log without its memory");
+		return wrong("dirty log exceeds its file");
 	map = map_file(m->descriptor[0], len, &mapped);
 	if (!map)
-		return wrong("a log that can't be mapped");
+		return wrong("cannot map the dirty log");
 	guest_unmap_log(vhost_guest);
 	log->map = map;
 	log->mapped = mapped;
@@ -242,7 +242,7 @@ static enum outcome reply(int client, uint32_t request, void *body, uint32_t siz
 	const struct msghdr said = { .msg_iov = pieces, .msg_iovlen = 2 };
 
 	if (sendmsg(client, &said, MSG_NOSIGNAL) != (ssize_t)(sizeof(head) + size))
-		return wrong("it takes no reply");
+		return wrong("cannot send a reply");
 	return REPLIED;
 }
 
@@ -355,7 +355,7 @@ static enum outcome obey_for(int client, struct message *m, struct queue *q)
 		return REPLIED;
 	case SET_VRING_KICK:
 		return queue_kick(q, take_descriptor(m)) ?
-			       wrong("a kick of a queue that cannot be waited for") :
+			       wrong("cannot wait for the kick descriptor of a queue") :
 			       DONE;
 	case SET_VRING_CALL:
 		queue_call(q, take_descriptor(m));
@@ -553,7 +553,7 @@ static int part_from_client(int client, int signals)
 	if (!parted)
 		queues_go();
 	else
-		transport_say(by->program, "a request of the front end that has gone does not return");
+		transport_say(by->program, "a request of the disconnected front end is still blocked");
 	queues_tell();
 	return 0;
 }
@@ -576,7 +576,7 @@ static enum end serve_client(int client, int signals)
 
 	if (setsockopt(client, SOL_SOCKET, SO_RCVTIMEO, &most, sizeof(most)) ||
 	    setsockopt(client, SOL_SOCKET, SO_SNDTIMEO, &most, sizeof(most))) {
-		failed("a front end's socket");
+		failed("set the timeouts of a front end's socket");
 		close(client);
 		return BROKEN;
 	}
@@ -598,7 +598,7 @@ static enum end serve_client(int client, int signals)
 			break;
 		}
 		if (wait[3].revents) {
-			wrong("memory that it shared is gone");
+			wrong("shared memory was truncated");
 			break;
 		}
 		if (wait[2].revents && serve_message(client, signals) == GONE)
@@ -642,10 +642,10 @@ static enum end serve_clients(int listener, int signals)
 			end = serve_client(client, signals);
 		} else if (errno == EMFILE || errno == ENFILE || errno == ENOBUFS || errno == ENOMEM) {
 			/* (others may give some back) */
-			failed("accept");
+			failed("accept a connection");
 			nanosleep(&pause, NULL);
 		} else if (errno != EAGAIN && errno != ECONNABORTED && errno != EINTR) {
-			failed("accept");
+			failed("accept a connection");
 			return BROKEN;
 		}
 	}
@@ -658,7 +658,7 @@ static _Noreturn void leave(int status)
 {
 	if (by->left)
 		by->left(by->user);
-	transport_say(by->program, "a request does not come back: it ends without");
+	transport_say(by->program, "exiting although a request is still blocked");
 	_exit(status);
 }
 
@@ -694,13 +694,13 @@ static int serve_guarded(struct guard *g, int listener, int client)
 
 	errno = pthread_create(&g->thread, NULL, keep_guard, g);
 	if (errno)
-		return failed("a thread"), 1;
+		return failed("start the thread that waits for signals"), 1;
 	if (!queues_begin(by))
 		end = client >= 0 ? serve_client(client, g->signals) : serve_clients(listener, g->signals);
 	if (queues_end())
 		leave(end == BROKEN);
 	if (write(g->ended, &one, sizeof(one)) < 0)
-		failed("eventfd");
+		failed("write to an eventfd");
 	pthread_join(g->thread, NULL);
 	return end == BROKEN;
 }
@@ -726,7 +726,7 @@ static int serve_with_workers(const transport *with, int listener, int client)
 	guard.signals = signalfd(-1, &ending, SFD_CLOEXEC);
 	guard.ended = eventfd(0, EFD_CLOEXEC);
 	if (guard.signals < 0 || guard.ended < 0)
-		failed("signalfd and eventfd");
+		failed("create a signalfd or an eventfd");
 	else
 		status = serve_guarded(&guard, listener, client);
 	if (guard.signals >= 0)
@@ -753,7 +753,7 @@ int vhost_user_serve_one(const transport *with, int client)
 /* Says why a path can't be that of a socket. */
 static int refuse(const transport *with, int answer, const char *path, const char *why)
 {
-	transport_say(with->program, "%s: %s", path, why);
+	transport_say(with->program, "cannot listen on '%s': %s", path, why);
 	return answer;
 }
 
@@ -816,12 +816,11 @@ int vhost_user_listen(const transport *with, const char *path)
 	/* (an empty one would be a name that has no file) */
 	if (!*path || strlen(path) >= sizeof(address.sun_path))
 		return refuse(with, -2, path,
-			      *path ? "the path of a socket may have 107 bytes at most" :
-				      "the path is empty");
+			      *path ? "the path is longer than 107 bytes" : "the path is empty");
 	memcpy(address.sun_path, path, strlen(path) + 1);
 	if (!lstat(path, &there)) {
 		if (!S_ISSOCK(there.st_mode))
-			return refuse(with, -2, path, "it is there, and is no socket");
+			return refuse(with, -2, path, "the file exists and is not a socket");
 		probe = socket(AF_UNIX, SOCK_STREAM | SOCK_CLOEXEC | SOCK_NONBLOCK, 0);
 		why = probe < 0 || !connect(probe, (struct sockaddr *)&address, sizeof(address)) ? EAGAIN :
 												   errno;
@@ -829,14 +828,14 @@ int vhost_user_listen(const transport *with, const char *path)
 			close(probe);
 		/* EAGAIN: that many wait there already. */
 		if (why == EAGAIN)
-			return refuse(with, -1, path, "somebody listens on it");
+			return refuse(with, -1, path, "another process listens on it");
 		if (why != ECONNREFUSED || unlink(path))
 			return refuse(with, -1, path, strerror(why != ECONNREFUSED ? why : errno));
 	}
 	transport_hold_signals(SIG_BLOCK);
 	listener = socket(AF_UNIX, SOCK_STREAM | SOCK_CLOEXEC | SOCK_NONBLOCK, 0);
 	if (listener < 0)
-		return refuse(with, -1, "socket", strerror(errno));
+		return refuse(with, -1, path, strerror(errno));
 	if (bind(listener, (struct sockaddr *)&address, sizeof(address)) || keep_made(path) ||
 	    listen(listener, 1)) {
 		refuse(with, -1, path, strerror(errno));

@@ -100,7 +100,7 @@ def test_a_mount_that_cannot_be_unmounted_is_reported_and_a_failure(mount_tree, 
     server.process.terminate()
     server.finish(status=1)
     subprocess.run(["umount", "-l", server.path], check=True)
-    assert f"{server.path}: Operation not permitted" in server.stderr()
+    assert f"cannot unmount '{server.path}': Operation not permitted" in server.stderr()
 
 
 # ---- sockets

@@ -342,7 +342,7 @@ def test_a_mount_that_cannot_be_unmounted_is_reported_and_a_failure(share_mount,
     server.process.terminate()
     server.finish(status=1)
     run("umount", "-l", server.path)
-    assert f"{server.path}: Operation not permitted" in server.stderr()
+    assert f"cannot unmount '{server.path}': Operation not permitted" in server.stderr()
 
 
 @pytest.mark.parametrize("name", ["late_read", "aborted_read"])
