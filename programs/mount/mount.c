@@ -1,7 +1,7 @@
 /* Mounts the file system of the library on a folder, over /dev/fuse, and serves it until it is
  * unmounted. It wants root, who may mount, and serves root alone, or all with allow_other.
  *
- * Usage: nizwarf-mount [-o OPTIONS] [--trace[=FILE]] FOLDER
+ * Usage: nizwarf-mount [-o OPTIONS] [--trace[=FILE]] DIRECTORY
  *
  * --help lists the options. SIGINT, SIGTERM and SIGHUP unmount. Where the folder is in use then, it goes
  * when the last user does, or at a second signal, or after two seconds if a request still waits. The server
@@ -23,6 +23,7 @@
 #include <errno.h>
 #include <getopt.h>
 #include <pthread.h>
+#include <stdarg.h>
 #include <stdio.h>
 #include <stdlib.h>
 #include <string.h>
@@ -34,20 +35,27 @@
 #include "trace.h"
 
 static const char usage[] =
-	"Usage: nizwarf-mount [-o OPTIONS] [--trace[=FILE]] FOLDER, or nizwarf-mount --version\n"
-	"Mounts the file system on the folder, and serves it until it is unmounted. --trace prints\n"
-	"each request and reply to standard error, or their bytes to a new FILE for nizwarf-decode.\n"
-	"Options, with commas between them; -o may come several times:\n"
-	"  allow_other             all users may use it, as its permissions say, not root alone\n"
-	"  ro, rw                  it is only read, or written too, as without a word\n"
-	"  noexec, nosuid, nodev   no programs, set-user-ID bits, devices: the last two hold anyhow\n"
-	"  size=N, nr_inodes=N     the most bytes, and files and directories; N may end in k, m or g\n"
-	"  mode=N, uid=N, gid=N    the root's permission bits in octal, its user and its group\n"
-	"  fsname=NAME             what df shows in place of nizwarf\n"
-	"  writeback               the kernel keeps what is written, and writes it later\n"
+	"Usage: nizwarf-mount [-o OPTIONS] [--trace[=FILE]] DIRECTORY\n"
+	"Mounts a file system in memory on the directory, and serves it until it is unmounted or\n"
+	"SIGINT or SIGTERM arrives.\n"
+	"\n"
+	"Options of -o, separated by commas; -o may be repeated:\n"
+	"  allow_other             allow all users, and not only root, as permissions say\n"
+	"  ro, rw                  mount read-only, or for reading and writing (the default)\n"
+	"  noexec, nosuid, nodev   ignore execute permissions, set-ID bits and device nodes; the last\n"
+	"                          two always apply\n"
+	"  size=N, nr_inodes=N     the most bytes, and the most files; N may end in k, m or g\n"
+	"  mode=N, uid=N, gid=N    the permissions of the root directory in octal, its owner and group\n"
+	"  fsname=NAME             the name that df shows; nizwarf by default\n"
+	"  writeback               let the kernel cache writes and send them later\n"
 	"  max_read=N              the most bytes of one read\n"
-	"  io_uring, no_io_uring   requests come by io_uring where Linux offers it, as without a word,\n"
-	"                          or by read and write alone\n";
+	"  io_uring, no_io_uring   receive requests by io_uring if Linux supports it (the default), or\n"
+	"                          by read and write only\n"
+	"\n"
+	"      --trace[=FILE]      print each request and reply on standard error, or write their bytes\n"
+	"                          to a new FILE for nizwarf-decode\n"
+	"      --version           print the version\n"
+	"  -h, --help              print this text\n";
 
 /* What the options say: set before there are workers, but for the time, which the first of them sets. Sizes
  * are in bytes. Strings point into the words of main(), and are not freed. */
@@ -56,10 +64,16 @@ static unsigned long flags = MS_NOSUID | MS_NODEV, max_read = TRANSPORT_PAYLOAD;
 static const char *name = "nizwarf", *allow_other = "", *trace_file;
 static int traces, by_ring = 1;
 
-/* Ends, since a word or an option can't be. */
-static _Noreturn void refuse_words(const char *why, const char *word)
+/* Prints why the command line is invalid, and exits. */
+static __attribute__((format(printf, 1, 2))) _Noreturn void refuse_words(const char *format, ...)
 {
-	fprintf(stderr, "nizwarf-mount: %s%s\n%s", why, word, usage);
+	va_list arguments;
+
+	fputs("nizwarf-mount: ", stderr);
+	va_start(arguments, format);
+	vfprintf(stderr, format, arguments);
+	va_end(arguments);
+	fputs("\nTry 'nizwarf-mount --help' for more information.\n", stderr);
 	exit(2);
 }
 
@@ -68,13 +82,15 @@ static _Noreturn void refuse_words(const char *why, const char *word)
 static uint64_t number(const char *key, const char *value, const char *suffixes, int base, uint64_t least,
 		       uint64_t most)
 {
-	static const char wrong[] = "no number, or one out of bounds, in the option ";
+	static const char wrong[] = "invalid number '%s' for option '-o %s'";
 	uint64_t n;
 	char *end;
 
+	if (!value)
+		refuse_words("option '-o %s' requires an argument", key);
 	/* strtoull takes spaces and signs too. */
-	if (!value || *value < '0' || *value > '9')
-		refuse_words(wrong, key);
+	if (*value < '0' || *value > '9')
+		refuse_words(wrong, value, key);
 	errno = 0;
 	n = strtoull(value, &end, base);
 	if (*end) {
@@ -82,11 +98,11 @@ static uint64_t number(const char *key, const char *value, const char *suffixes,
 		const int shift = suffix ? 10 * (int)(suffix - suffixes + 1) : 0;
 
 		if (!suffix || end[1] || n > UINT64_MAX >> shift)
-			refuse_words(wrong, key);
+			refuse_words(wrong, value, key);
 		n <<= shift;
 	}
 	if (errno || n < least || n > most)
-		refuse_words(wrong, key);
+		refuse_words(wrong, value, key);
 	return n;
 }
 
@@ -130,7 +146,7 @@ static void take_option(const char *key, char *value)
 	else if (!strcmp(key, "max_read"))
 		max_read = number(key, value, "", 10, 4096, TRANSPORT_PAYLOAD);
 	else
-		refuse_words("there is no such option: ", key);
+		refuse_words("unrecognized option '-o %s'", key);
 }
 
 /* Takes options with commas between them, which are cut apart in place. An empty one is let pass. */
@@ -180,10 +196,12 @@ static void take_word(int found, const char *word, const struct option *known)
 		fputs(usage, stdout);
 		exit(fflush(stdout) != 0);
 	case ':':
-		refuse_words("it wants options: ", letter);
+		refuse_words("option '%s' requires an argument", letter);
 	default:
-		refuse_words("there is no such word, or it takes no value: ",
-			     !known && optopt && optopt < TRACE ? letter : word);
+		if (!known && optopt >= TRACE)
+			refuse_words("option '%.*s' doesn't allow an argument", (int)strcspn(word, "="),
+				     word);
+		refuse_words("unrecognized option '%s'", !known && optopt ? letter : word);
 	}
 }
 
@@ -193,8 +211,10 @@ static const char *take_words(int count, char **words)
 	opterr = 0;
 	for (int found, i = -1; (found = getopt_long(count, words, ":ho:", known_words, &i)) != -1; i = -1)
 		take_word(found, words[optind - 1], i < 0 ? NULL : &known_words[i]);
-	if (optind != count - 1)
-		refuse_words("one folder is wanted", "");
+	if (optind == count)
+		refuse_words("missing directory");
+	if (optind < count - 1)
+		refuse_words("unexpected argument '%s'", words[optind + 1]);
 	return words[optind];
 }
 
@@ -231,7 +251,8 @@ static int begin(void *user, unsigned worker)
 	callers += code == NIZWARF_OK;
 	pthread_mutex_unlock(&lock);
 	if (code != NIZWARF_OK)
-		fprintf(stderr, "nizwarf-mount: there is no server\n");
+		fprintf(stderr, "nizwarf-mount: cannot create the file system: code %d of nizwarf.h\n",
+			(int)code);
 	return code != NIZWARF_OK;
 }
 

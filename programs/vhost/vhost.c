@@ -20,10 +20,14 @@
 #include "trace.h"
 
 static const char usage[] =
-	"Usage: nizwarf-vhost [--trace[=FILE]] SOCKET, or nizwarf-vhost --version\n"
-	"Serves the file system on a new socket of this path as a vhost-user device of virtio-fs,\n"
-	"to one front end, as QEMU, after another, until SIGINT or SIGTERM. --trace prints each request\n"
-	"and reply to standard error, or their bytes to a new FILE for nizwarf-decode.\n";
+	"Usage: nizwarf-vhost [--trace[=FILE]] SOCKET\n"
+	"Serves a file system in memory on a new socket, as a vhost-user device of virtio-fs, to one\n"
+	"front end such as QEMU after another, until SIGINT or SIGTERM arrives.\n"
+	"\n"
+	"      --trace[=FILE]  print each request and reply on standard error, or write their bytes to\n"
+	"                      a new FILE for nizwarf-decode\n"
+	"      --version       print the version\n"
+	"  -h, --help          print this text\n";
 
 /* The files: the worker's alone, from its begin to its end. With the process they are gone. */
 static nizwarf_server server = NIZWARF_SERVER_INIT;
@@ -41,7 +45,7 @@ static int begin(void *user, unsigned worker)
 	if (nizwarf_server_new(&server, (uint32_t)sysconf(_SC_PAGESIZE), TRANSPORT_PAYLOAD, &settings) ==
 	    NIZWARF_OK)
 		return 0;
-	fputs("nizwarf-vhost: the library: there is no server\n", stderr);
+	fputs("nizwarf-vhost: cannot create the file system\n", stderr);
 	return 1;
 }
 
@@ -123,9 +127,13 @@ int main(int count, char **words)
 		words++;
 	}
 	if (count != 2 || words[1][0] == '-') {
-		fprintf(stderr, "nizwarf-vhost: %s%s\n%s",
-			count == 2 ? "there is no such word: " : "one word is wanted: the path of a socket",
-			count == 2 ? words[1] : "", usage);
+		if (count > 1 && words[1][0] == '-')
+			fprintf(stderr, "nizwarf-vhost: unrecognized option '%s'\n", words[1]);
+		else if (count > 2)
+			fprintf(stderr, "nizwarf-vhost: unexpected argument '%s'\n", words[2]);
+		else
+			fputs("nizwarf-vhost: missing path of a socket\n", stderr);
+		fputs("Try 'nizwarf-vhost --help' for more information.\n", stderr);
 		return 2;
 	}
 	/* (before the socket is there: who connects is served with the trace) */

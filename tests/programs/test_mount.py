@@ -32,12 +32,25 @@ def is_asleep(pid):
 
 # ---- options
 
-@pytest.mark.parametrize("options", ["--vers", "--no-such-word", "-x", "--version=1", "-o none", "-o size=x"])
-def test_an_unknown_option_is_refused_by_its_name(tree_mount, scratch, options):
+@pytest.mark.parametrize("options, message", [
+    ("--vers", "unrecognized option '--vers'"), ("--no-such-option", "unrecognized option '--no-such-option'"),
+    ("-x", "unrecognized option '-x'"), ("--version=1", "option '--version' doesn't allow an argument"),
+    ("-o", "option '-o' requires an argument"), ("-o none", "unrecognized option '-o none'"),
+    ("-o size", "option '-o size' requires an argument"), ("-o size=x", "invalid number 'x' for option '-o size'"),
+    ("more", "unexpected argument 'more'")])
+def test_an_option_that_is_wrong_is_refused_by_its_name(tree_mount, scratch, options, message):
     ended = subprocess.run([tree_mount, scratch, *options.split()], capture_output=True, text=True, timeout=10)
     assert ended.returncode == 2
-    assert ended.stderr.startswith("nizwarf-mount: ")
-    assert ended.stderr.splitlines()[0].endswith(options.split()[-1].removesuffix("=x"))
+    assert ended.stderr == f"nizwarf-mount: {message}\nTry 'nizwarf-mount --help' for more information.\n"
+
+
+@pytest.mark.parametrize("arguments, message", [
+    ([], "missing path of a socket"), (["--no-such-option"], "unrecognized option '--no-such-option'"),
+    (["socket", "more"], "unexpected argument 'more'")])
+def test_arguments_of_nizwarf_vhost_that_are_wrong_are_refused_by_name(tree_vhost, arguments, message):
+    ended = subprocess.run([tree_vhost, *arguments], capture_output=True, text=True, timeout=10)
+    assert ended.returncode == 2
+    assert ended.stderr == f"nizwarf-vhost: {message}\nTry 'nizwarf-vhost --help' for more information.\n"
 
 
 def test_the_version_begins_with_the_name_of_the_program(tree_mount):
