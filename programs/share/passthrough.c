@@ -218,15 +218,15 @@ int passthrough_begin(void *user, unsigned worker)
 	if (!all->worker[worker])
 		all->worker[worker] = calloc(1, sizeof(struct worker));
 	if (!all->worker[worker]) {
-		transport_say("nizwarf-share", "a worker: no memory");
+		transport_say("nizwarf-share", "cannot start a worker: out of memory");
 		return 1;
 	}
 	if (begin_worker(all->worker[worker], &all->options)) {
-		transport_say("nizwarf-share", "a worker: %s", strerror(errno));
+		transport_say("nizwarf-share", "cannot start a worker: %s", strerror(errno));
 		return 1;
 	}
 	if (!worker && all->nodes.watch && (errno = watch_start(all->nodes.watch))) {
-		transport_say("nizwarf-share", "--watch: %s", strerror(errno));
+		transport_say("nizwarf-share", "cannot start --watch: %s", strerror(errno));
 		return 1;
 	}
 	return 0;
@@ -414,8 +414,8 @@ int passthrough_watch(struct passthrough *all)
 		return -1;
 	/* (others may change a file of another kind where nobody here sees it) */
 	if (!all->is_local)
-		fputs("nizwarf-share: --watch: the folder is on no ext4, xfs, btrfs or tmpfs: names and attributes "
-		      "are remembered for a second\n",
+		fputs("nizwarf-share: warning: --watch: the directory is not on ext4, xfs, btrfs or tmpfs: names and "
+		      "attributes are cached for one second\n",
 		      stderr);
 	nodes_watch(&all->nodes, watch, all->is_local ? all->local_device : 0);
 	return 0;

@@ -74,7 +74,8 @@ void backings_free(struct backings *all)
 static void end_numbers(struct backings *all, int error)
 {
 	if (!atomic_exchange(&all->is_over, true))
-		transport_say("nizwarf-share", "--passthrough: %s: files are served by requests",
+		transport_say("nizwarf-share",
+			      "warning: --passthrough failed: %s: files are read and written by requests",
 			      strerror(error));
 }
 

@@ -758,8 +758,9 @@ static void want_further(const struct call *call)
 	if (!all->backings)
 		return;
 	if (!(nizwarf_init_ext_flags(call->asked) & NIZWARF_PASSTHROUGH)) {
-		transport_say("nizwarf-share",
-			      "--passthrough: Linux has it from 6.9 on: files are served by requests");
+		transport_say(
+			"nizwarf-share",
+			"warning: --passthrough requires Linux 6.9: files are read and written by requests");
 		return;
 	}
 	*more = (nizwarf_init_params){ .want = NIZWARF_PASSTHROUGH, .max_stack_depth = all->stack_depth };
@@ -781,10 +782,10 @@ const char *lacking_option(const struct passthrough *all, uint64_t options)
 {
 	/* (it would let in whom they deny) */
 	if (all->options.posix_acl && ~options & HAS_LISTS)
-		return "--posix-acl: a client has no access control lists";
+		return "--posix-acl: the client does not support access control lists";
 	/* (files would be made without one) */
 	if (all->options.security_label && !(options & SECURITY_LABELS))
-		return "--security-label: a client has none";
+		return "--security-label: the client does not support security labels";
 	return NULL;
 }
 

@@ -28,15 +28,15 @@ static const char *add(struct id_rules *all, const struct id_rule *rule)
 	if ((uint64_t)rule->from + rule->count > UINT32_MAX ||
 	    (rule->how == IDS_SHIFTED && (uint64_t)rule->to + rule->count > UINT32_MAX) ||
 	    (rule->how == IDS_SQUASHED && rule->to == UINT32_MAX))
-		return "its ids are more than there are";
+		return "ids must not exceed 4294967294";
 	if (!rule->count)
 		return NULL;
 	for (size_t i = 0; i < all->count; i++)
 		if (overlap(&all->rules[i], rule))
-			return "an id of it has a rule already";
+			return "it overlaps another rule";
 	more = realloc(all->rules, (all->count + 1) * sizeof(*more));
 	if (!more)
-		return "there is no memory";
+		return "out of memory";
 	more[all->count++] = *rule;
 	all->rules = more;
 	return NULL;
@@ -92,9 +92,10 @@ const char *ids_add(struct ids *ids, const char *text)
 		if (strlen(types[i].name) == len && !strncasecmp(types[i].name, text, len))
 			type = &types[i];
 	if (!type)
-		return "its type is none of guest, host, squash-guest, squash-host, forbid-guest, map";
+		return "type must be one of guest, host, squash-guest, squash-host, forbid-guest, map";
 	if (!text[len] || read_numbers(text + len + 1, text[len], number) != type->numbers)
-		return type->numbers == 2 ? "it is forbid-guest:FROM:COUNT" : "it is TYPE:FROM:TO:COUNT";
+		return type->numbers == 2 ? "the form is forbid-guest:FROM:COUNT" :
+					    "the form is TYPE:FROM:TO:COUNT";
 	/* FROM and COUNT alone. */
 	if (type->how == IDS_FORBIDDEN)
 		return add(&ids->to_host, &(struct id_rule){ number[0], number[1], 0, IDS_FORBIDDEN });

@@ -65,9 +65,9 @@ static int get(struct loading *l, void *bytes, size_t len)
 	const ssize_t got = transport_get_state(l->from, bytes, len);
 
 	if (got < 0)
-		return state_refuse("the state cannot be received: %s", strerror(errno));
+		return state_refuse("cannot receive the state: %s", strerror(errno));
 	if ((size_t)got < len)
-		return state_refuse("the state ends early");
+		return state_refuse("the state is truncated");
 	l->end.sum = state_sum(l->end.sum, bytes, len);
 	return 0;
 }
@@ -87,9 +87,10 @@ static const char *printable(char *name)
 static int lose(struct loading *l, const char *what, uint64_t number, char *name, int error)
 {
 	if (!l->all->options.loses_files || l->lost++ < MOST_TOLD)
-		state_refuse("%s %llu%s%s: %s", what, (unsigned long long)number, *name ? ", " : "",
-			     printable(name),
-			     error == EXDEV ? "it is another file, or not in the folder" : strerror(error));
+		state_refuse("cannot restore %s %llu%s%s: %s", what, (unsigned long long)number,
+			     *name ? ", " : "", printable(name),
+			     error == EXDEV ? "it is a different file or outside of the directory" :
+					      strerror(error));
 	return l->all->options.loses_files ? 0 : -1;
 }
 
@@ -141,10 +142,10 @@ static int load_directory(struct loading *l)
 	int fd = -1, error;
 
 	if (!state_decode_directory(l->body, l->len, &result) || result.parent >= l->count)
-		return state_refuse("a state with a directory that cannot be");
+		return state_refuse("invalid directory record");
 	/* (as many as passthrough_save() puts there) */
 	if (++l->directories > (size_t)l->all->options.most_nodes + STATE_SPARE_DIRECTORIES)
-		return state_refuse("a state with too many directories");
+		return state_refuse("too many directory records");
 	error = fd_reserve(&l->all->nodes, 1);
 	if (!error && (fd = open_name(l, result.parent, result.name, O_PATH | O_DIRECTORY)) < 0) {
 		error = errno;
@@ -162,7 +163,7 @@ static int load_mount(struct loading *l)
 {
 	if (l->header.mode != MIGRATES_BY_HANDLES || l->mount_count == MOST_MOUNTS ||
 	    !state_is_path((const char *)l->body, l->len))
-		return state_refuse("a state with a file system that cannot be");
+		return state_refuse("invalid file system record");
 	/* (It is open for as long as no request is. If it does not open, what comes by its handles is lost.) */
 	l->mounts[l->mount_count++] = open_below(&l->paths, (const char *)l->body, O_RDONLY | O_DIRECTORY);
 	return 0;
@@ -255,10 +256,10 @@ static int open_place(struct loading *l, const struct state_node *result)
 static int load_root(struct loading *l, const struct state_node *result)
 {
 	if (l->count || result->parent != NOWHERE)
-		return state_refuse("a state with a folder that cannot be");
+		return state_refuse("invalid record of the shared directory");
 	if (result->handle_size && l->header.mode != MIGRATES_BY_HANDLES &&
 	    !has_handle(l->paths.root, result))
-		return state_refuse("the folder is another one");
+		return state_refuse("the shared directory is a different one");
 	return add_entry(l, ROOT_NODE, -1, 0);
 }
 
@@ -288,20 +289,20 @@ static int load_node(struct loading *l)
 	int error;
 
 	if (!state_decode_node(l->body, l->len, &result))
-		return state_refuse("a state with a node that cannot be");
+		return state_refuse("invalid node record");
 	l->end.nodes++;
 	if (result.number == ROOT_NODE)
 		return load_root(l, &result);
 	if (!l->count || (result.parent != NOWHERE && result.parent >= l->count))
-		return state_refuse("a state with a node in no directory");
+		return state_refuse("node record with an unknown directory");
 	if (l->has_no_session)
-		return state_refuse("a state with files, of a client that has no session");
+		return state_refuse("node record of a client without a session");
 	/* (a number's lower half is below the other server's --node-limit) */
 	if (l->end.nodes > l->all->options.most_nodes || (uint32_t)result.number > l->all->options.most_nodes)
-		return state_refuse("the state has more files than --node-limit allows here");
+		return state_refuse("the state has more files than --node-limit allows");
 	error = restore_node(l, &result);
 	if (error == EEXIST)
-		return state_refuse("a state with a number twice");
+		return state_refuse("duplicate node number");
 	if (add_entry(l, result.number, -1, error))
 		return -1;
 	if (!error)
@@ -366,13 +367,13 @@ static int load_file(struct loading *l)
 	int error;
 
 	if (!state_decode_file(l->body, l->len, &result))
-		return state_refuse("a state with an open file that cannot be");
+		return state_refuse("invalid open file record");
 	if (l->has_no_session)
-		return state_refuse("a state with open files, of a client that has no session");
+		return state_refuse("open file record of a client without a session");
 	l->end.files++;
 	error = restore_file(l, &result);
 	if (error == EEXIST)
-		return state_refuse("a state with the number of an open file twice");
+		return state_refuse("duplicate open file number");
 	if (!error)
 		return 0;
 	if (file_lose(&l->all->nodes, result.number))
@@ -389,11 +390,13 @@ static int load_end(struct loading *l)
 	char more;
 
 	if (!state_decode_end(l->body, l->len, &result))
-		return state_refuse("a state with an end that cannot be");
+		return state_refuse("invalid end record");
 	if (!l->count || result.nodes != l->end.nodes || result.files != l->end.files ||
 	    result.sum != l->sum_before)
-		return state_refuse("the state is damaged");
-	return transport_get_state(l->from, &more, 1) ? state_refuse("the state goes on after its end") : 0;
+		return state_refuse("the state is corrupted");
+	return transport_get_state(l->from, &more, 1) ?
+		       state_refuse("the state has data after its end record") :
+		       0;
 }
 
 /* Loads one record: -1, or 0; or 1, if it was the end. */
@@ -407,7 +410,7 @@ static int load_record(struct loading *l)
 		return -1;
 	state_decode_record(begin, &kind, &len);
 	if (len > STATE_LONGEST)
-		return state_refuse("a state with a record that is too long");
+		return state_refuse("record is too long");
 	l->len = len;
 	if (get(l, l->body, len))
 		return -1;
@@ -425,7 +428,7 @@ static int load_record(struct loading *l)
 	case STATE_END:
 		return load_end(l) ? -1 : 1;
 	default:
-		return state_refuse("a state with a record that is none");
+		return state_refuse("unknown record type");
 	}
 }
 
@@ -439,7 +442,7 @@ static int check_agreed(struct loading *l)
 
 	if (more)
 		return state_refuse(
-			"the client agreed on options that this server is not started with: 0x%llx",
+			"the client has negotiated features that this server was not started with: 0x%llx",
 			(unsigned long long)more);
 	if (lacking && agreed)
 		return state_refuse("%s", lacking);
@@ -456,15 +459,14 @@ static int load_header(struct loading *l)
 	if (get(l, bytes, sizeof(bytes)))
 		return -1;
 	if (!state_decode_header(bytes, header))
-		return state_refuse("it is no state of nizwarf-share");
+		return state_refuse("not a state of nizwarf-share");
 	if (header->version != STATE_VERSION)
-		return state_refuse("the state is of version %u, and this server takes version %d",
+		return state_refuse("unsupported state version %u: this server supports version %d",
 				    header->version, STATE_VERSION);
 	if (header->mode > MIGRATES_BY_HANDLES)
-		return state_refuse("the state has files in a way that is not known");
+		return state_refuse("unknown --migration-mode in the state");
 	if (header->mode == MIGRATES_BY_HANDLES && !by_handles)
-		return state_refuse(
-			"the state has file handles, which are taken with --migration-mode=file-handles");
+		return state_refuse("the state has file handles and requires --migration-mode=file-handles");
 	return check_agreed(l);
 }
 
@@ -475,13 +477,13 @@ static int load_all(struct loading *l)
 	int came = 0;
 
 	if (paths_begin(&l->paths, &l->all->nodes))
-		return state_refuse("it cannot be found out where the folder is");
+		return state_refuse("cannot find the path of the shared directory");
 	if (load_header(l))
 		return -1;
 	while (!came)
 		came = load_record(l);
 	if (came > 0 && l->lost)
-		state_refuse("the client sees errors in place of %zu nodes and open files", l->lost);
+		state_refuse("%zu nodes and open files are lost: the client gets errors for them", l->lost);
 	return came > 0 ? 0 : -1;
 }
 

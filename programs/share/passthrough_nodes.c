@@ -280,7 +280,7 @@ int node_reserve(struct nodes *all)
 		if (!atomic_flag_test_and_set(&all->said_most))
 			transport_say(
 				"nizwarf-share",
-				"the client knows %u files, as many as it may: --node-limit says how many",
+				"warning: the client has reached --node-limit=%u: calls that need another file fail with ENFILE",
 				all->most_nodes);
 	}
 	if (!error)

@@ -86,7 +86,7 @@ static int put(struct saving *s, const void *bytes, size_t len)
 	s->end.sum = state_sum(s->end.sum, bytes, len);
 	if (!transport_put_state(s->to, bytes, len))
 		return 0;
-	return state_refuse("the state cannot be sent: %s", strerror(errno));
+	return state_refuse("cannot send the state: %s", strerror(errno));
 }
 
 /* Puts the record whose bytes were encoded at `s->record + STATE_RECORD`. */
@@ -571,7 +571,7 @@ static int save_sought(struct saving *s)
 		search_below(search);
 	if (search_is_cut(search))
 		transport_say("nizwarf-share",
-			      "migration: the directory has too many names to look at all of them");
+			      "migration: the directory has too many names to search all of them");
 	search_end(search);
 	failed = s->has_failed ? -1 : 0;
 	for (size_t i = 0; i < s->sought_count && !failed; i++)
@@ -647,9 +647,10 @@ static int save_files(struct saving *s)
 		flags = fcntl(file->counted.fd, F_GETFL);
 		result.node = file->node;
 		result.flags = (uint32_t)(flags & ~O_DIRECTORY) | (file->is_directory ? O_DIRECTORY : 0);
-		failed = flags < 0 ? state_refuse("an open file: %s", strerror(errno)) :
-				     put_record(s, STATE_FILE,
-						state_encode_file(&result, s->record + STATE_RECORD));
+		failed = flags < 0 ?
+				 state_refuse("cannot get the flags of an open file: %s", strerror(errno)) :
+				 put_record(s, STATE_FILE,
+					    state_encode_file(&result, s->record + STATE_RECORD));
 		s->end.files++;
 		file_put(file);
 	}
@@ -674,10 +675,9 @@ static int save_header(struct saving *s)
 static int save_all(struct saving *s)
 {
 	if (s->all->locks && locks_are_held(s->all->locks))
-		return state_refuse(
-			"the client holds locks of the host, which no other server can take over: it stays here");
+		return state_refuse("the client holds locks of the host, which cannot be migrated");
 	if (paths_begin(&s->paths, &s->all->nodes))
-		return state_refuse("it cannot be found out where the folder is");
+		return state_refuse("cannot find the path of the shared directory");
 	/* (the folder is the first entry) */
 	if (save_header(s) || save_mounts(s) || save_node(s, ROOT_NODE) || for_each_node(s, save_node) ||
 	    save_sought(s) || save_files(s))
@@ -687,7 +687,7 @@ static int save_all(struct saving *s)
 		return -1;
 	if (s->lost)
 		transport_say("nizwarf-share",
-			      "migration: %zu files have no path in the directory, or no handle", s->lost);
+			      "migration: %zu files have no path in the directory or no handle", s->lost);
 	return 0;
 }
 

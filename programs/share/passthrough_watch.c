@@ -215,7 +215,7 @@ static void say_unwatched(struct watch *all, int error)
 	if (!atomic_exchange(&all->said, true))
 		transport_say(
 			"nizwarf-share",
-			"--watch: not all files can be watched: %s: the others are remembered for a second",
+			"warning: --watch: cannot watch all files: %s: the others are cached for one second",
 			strerror(error));
 }
 

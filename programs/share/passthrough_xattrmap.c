@@ -78,21 +78,21 @@ static const char *read_rule(char **rest, struct rule *rule)
 	int found = word ? one_of(word, types) : -1;
 
 	if (!word)
-		return "the sign that it begins with is missing after its type";
+		return "missing separator after the type";
 	if (found < 0)
-		return "its type is none of prefix, ok, bad, unsupported, map";
+		return "type must be one of prefix, ok, bad, unsupported, map";
 	rule->type = (enum type)found;
 	rule->scope = ALL;
 	if (rule->type != MAP) {
 		word = take(rest, sign);
 		found = word ? one_of(word, scopes) : -1;
 		if (found < 0)
-			return "its scope is none of client, server, all";
+			return "scope must be one of client, server, all";
 		rule->scope = (unsigned)found + 1;
 	}
 	rule->key = take(rest, sign);
 	rule->prepend = rule->key ? take(rest, sign) : NULL;
-	return rule->prepend ? NULL : "it ends too early, or without its sign";
+	return rule->prepend ? NULL : "missing field or separator";
 }
 
 /* Puts in place of a map rule the two or three that it stands for. How many there are then. With a key
@@ -136,7 +136,7 @@ static const char *read_rules(char *rest, struct xattr_map *map)
 		if (!*rest)
 			break;
 		if (*rest & 0x80)
-			return "a sign between fields is one of ASCII";
+			return "separator must be an ASCII character";
 		why = read_rule(&rest, rule);
 		if (why)
 			return why;
@@ -144,7 +144,7 @@ static const char *read_rules(char *rest, struct xattr_map *map)
 			while (is_space(*rest))
 				rest++;
 			if (*rest)
-				return "after a rule of type map there is no other";
+				return "a rule of type map must be the last one";
 			map->count += expand(rule);
 			break;
 		}
@@ -162,14 +162,14 @@ const struct xattr_map *xattr_map_read(const char *text, const char **why, unsig
 	*rule = 0;
 	if (map)
 		map->text = strdup(text);
-	*why = map && map->text ? read_rules(map->text, map) : "there is no memory";
+	*why = map && map->text ? read_rules(map->text, map) : "out of memory";
 	/* (what is wrong with one rule is told with its number; all of them together have none) */
 	if (*why && map && map->text)
 		*rule = (unsigned)map->count + 1;
 	else if (!*why && !map->count)
-		*why = "there is no rule";
+		*why = "no rules";
 	else if (!*why && !is_whole(map))
-		*why = "no rule holds for what is left, as :bad:all::: would at its end";
+		*why = "some names match no rule: end it with a rule such as :bad:all:::";
 	if (!*why)
 		return map;
 	if (map)

@@ -48,9 +48,13 @@ enum { OF_MOUNT = 16, OF_MOUNT_WORKER = 3, OF_RING_WORKER = 2, OF_SOCKET = 24, O
 /* How many requests of each processor may wait for locks over io_uring. */
 enum { MOST_WAITING = 63 };
 
-static int failed(const char *what)
+/* Prints that an action failed, on which object if it is not NULL, and why by errno. Returns -1. */
+static int failed(const char *action, const char *object)
 {
-	transport_say("nizwarf-share", "%s: %s", what, strerror(errno));
+	if (object)
+		transport_say("nizwarf-share", "cannot %s '%s': %s", action, object, strerror(errno));
+	else
+		transport_say("nizwarf-share", "cannot %s: %s", action, strerror(errno));
 	return -1;
 }
 
@@ -89,8 +93,8 @@ static void raise_limit(void)
 	/* (unasked it is as many as may be) */
 	if (words.says_more && words.wants_files)
 		fprintf(stderr,
-			"nizwarf-share: --rlimit-nofile: at most %llu files can be open, and not %lu\n",
-			(unsigned long long)limit.rlim_max, words.most_files);
+			"nizwarf-share: warning: --rlimit-nofile=%lu exceeds the hard limit: using %llu\n",
+			words.most_files, (unsigned long long)limit.rlim_max);
 }
 
 /* Makes the table of descriptors as large as most folders want. To grow it while there are threads
@@ -127,7 +131,7 @@ static int meet_manager(void)
 	fd = socket(AF_UNIX, SOCK_DGRAM | SOCK_CLOEXEC, 0);
 	if (fd >= 0 && connect(fd, (struct sockaddr *)&address,
 			       (socklen_t)(offsetof(struct sockaddr_un, sun_path) + len))) {
-		failed("NOTIFY_SOCKET");
+		failed("connect to NOTIFY_SOCKET", path);
 		close(fd);
 		return -1;
 	}
@@ -143,10 +147,10 @@ static int go_to_background(void)
 	char result = 1;
 
 	if (pipe2(ends, O_CLOEXEC))
-		return failed("pipe");
+		return failed("create a pipe", NULL);
 	child = fork();
 	if (child < 0)
-		return failed("fork");
+		return failed("fork", NULL);
 	if (child) {
 		close(ends[1]);
 		pass_signals(child);
@@ -158,7 +162,7 @@ static int go_to_background(void)
 	setsid();
 	/* (the path of a socket may be one from here) */
 	if (is_mount() && chdir("/"))
-		return failed("/");
+		return failed("change to directory", "/");
 	return ends[1];
 }
 
@@ -196,7 +200,7 @@ static void tell_manager(void)
 	while (result < 0 && errno == EAGAIN && poll(wait, 2, wait[0].fd < 0 ? GUARD_MOST : -1) > 0 &&
 	       !wait[0].revents);
 	if (result < 0)
-		failed("NOTIFY_SOCKET");
+		failed("notify the service manager", NULL);
 	if (wait[0].fd >= 0)
 		close(wait[0].fd);
 }
@@ -206,15 +210,14 @@ static void tell_ready(void *user)
 {
 	(void)user;
 	if (words.says_more)
-		transport_say("nizwarf-share", "%s is served %s %s", words.folder,
-			      words.mount_point ? "at" : "on",
+		transport_say("nizwarf-share", "serving %s on %s", words.folder,
 			      words.mount_point ? words.mount_point :
 			      words.socket_path ? words.socket_path :
 						  "the socket of --fd");
 	if (manager >= 0)
 		tell_manager();
 	if (starter >= 0 && write(starter, "", 1) != 1)
-		failed("the process that was started");
+		failed("notify the parent process", NULL);
 	go_quiet();
 }
 
@@ -269,11 +272,10 @@ static int look_at_socket(const char *path)
 		     most = sizeof(((struct sockaddr_un *)0)->sun_path) - 1;
 
 	if (strlen(path) > most)
-		refuse("--socket-path is longer than %zu bytes, the limit of a socket's path: %s", most,
-		       path);
+		refuse("--socket-path must not be longer than %zu bytes: '%s'", most, path);
 	/* (the directory is the root, or that in which the program was started, or what is before the name) */
 	snprintf(directory, sizeof(directory), "%.*s", name ? (int)(len ? len : 1) : 1, name ? path : ".");
-	return faccessat(AT_FDCWD, directory, W_OK | X_OK, AT_EACCESS) ? failed(path) : 0;
+	return faccessat(AT_FDCWD, directory, W_OK | X_OK, AT_EACCESS) ? failed("create socket", path) : 0;
 }
 
 /* Listens for the owner, and for the group of those who may connect too. Who connects has the whole
@@ -293,7 +295,7 @@ static int listen_on_socket(const transport *of)
 		return words.fd;
 	}
 	if (words.socket_group && !group)
-		refuse("--socket-group: unknown group: %s", words.socket_group);
+		refuse("--socket-group: unknown group '%s'", words.socket_group);
 	if (look_at_socket(words.socket_path))
 		exit(1);
 	if (pid_file_take(words.socket_path))
@@ -307,7 +309,7 @@ static int listen_on_socket(const transport *of)
 	if (listener < 0)
 		exit(-listener);
 	if (group && give_to_group(words.socket_path, group->gr_gid)) {
-		failed(words.socket_path);
+		failed("change the group of socket", words.socket_path);
 		exit(1);
 	}
 	return listener;
@@ -397,7 +399,8 @@ static void make_rings(void)
 	if (by.rings)
 		by.ring = &fuse_ring;
 	else if (words.by_ring && device >= 0)
-		fputs("nizwarf-share: io_uring is not available: requests are served by read(2)\n", stderr);
+		fputs("nizwarf-share: warning: io_uring is not available: falling back to read(2) and write(2)\n",
+		      stderr);
 }
 
 /* How many workers there are at most, and descriptors besides those of files. Over io_uring the worker
@@ -455,9 +458,9 @@ static int limit(struct passthrough *all)
 
 	/* (to unmount takes more than the files do, and each worker limits itself) */
 	if ((!mounts && passthrough_limit(&words.files)) || prctl(PR_SET_NO_NEW_PRIVS, 1, 0, 0, 0))
-		return failed("privileges");
+		return failed("drop privileges", NULL);
 	if (passthrough_watch(all))
-		return failed("--watch");
+		return failed("watch directory", words.folder);
 	/* (last of all: what is opened or made from here on is by the calls of the filter) */
 	return sandbox_filter((enum calls_filter)words.filter,
 			      (mounts ? MAY_UNMOUNT : 0) | (words.files.notices ? MAY_WATCH : 0) |
@@ -509,7 +512,7 @@ static int serve(int listener)
 	grow_table(root);
 	all = passthrough_new(root, proc, &words.files);
 	if (!all)
-		return failed(words.folder), 1;
+		return failed("serve directory", words.folder), 1;
 	by.user = all;
 	by.descriptors = proc;
 	if (!begin_mount()) {
@@ -536,12 +539,12 @@ static int look_at_folder(void)
 	struct stat seen;
 
 	if (stat(words.folder, &seen))
-		return failed(words.folder), 2;
+		return failed("open", words.folder), 2;
 	errno = ENOTDIR;
 	if (!S_ISDIR(seen.st_mode))
-		return failed(words.folder), 2;
+		return failed("open", words.folder), 2;
 	if (!words.uids.count && faccessat(AT_FDCWD, words.folder, X_OK, AT_EACCESS))
-		return failed(words.folder), 2;
+		return failed("open", words.folder), 2;
 	return 0;
 }
 
@@ -554,7 +557,7 @@ static int find_places(void)
 	if (!realpath(words.folder, folder)) {
 		if (errno == ENOENT && words.may_be_missing)
 			exit(0);
-		return failed(words.folder), 2;
+		return failed("open", words.folder), 2;
 	}
 	words.folder = folder;
 	if (look_at_folder())
@@ -562,11 +565,11 @@ static int find_places(void)
 	if (!words.mount_point)
 		return 0;
 	if (!realpath(words.mount_point, mount_point))
-		return failed(words.mount_point), 2;
+		return failed("open mount point", words.mount_point), 2;
 	words.mount_point = mount_point;
 	/* A server that looks there would ask itself. */
 	if (is_below(mount_point, folder) && strcmp(mount_point, folder) != 0)
-		refuse("the mount point lies in the shared directory: %s", mount_point);
+		refuse("mount point '%s' is inside the shared directory", mount_point);
 	return 0;
 }
 
@@ -576,13 +579,13 @@ int main(int count, char **given)
 	int listener = -1, status;
 
 	if (fill_standard())
-		return failed("/dev/null"), 1;
+		return failed("open", "/dev/null"), 1;
 	take_words(count, given);
 	if (words.logs && syslog_start())
 		return 1;
 	if (words.tag && words.says_more)
 		fprintf(stderr,
-			"nizwarf-share: --tag=%s is ignored: the tag is an option of the virtual machine\n",
+			"nizwarf-share: warning: ignoring --tag=%s: the tag is an option of the virtual machine\n",
 			words.tag);
 	by.workers = words.files.workers;
 	/* (over a mount data may go by a pipe, and one of this size takes no privilege) */
@@ -595,8 +598,8 @@ int main(int count, char **given)
 	if (words.watches)
 		by.notices = words.files.notices = &notices;
 	if (words.says_more && *words.allow_other && is_mount() && !words.files.posix_acl)
-		fputs("nizwarf-share: note: without --posix-acl users are let in by modes alone; add it if files of the "
-		      "directory have access control lists\n",
+		fputs("nizwarf-share: warning: allow_other without --posix-acl ignores access control lists: add it if "
+		      "files of the directory have any\n",
 		      stderr);
 	if (words.traces && trace_begin(&by, words.trace_file))
 		return 1;
@@ -609,7 +612,7 @@ int main(int count, char **given)
 	manager = meet_manager();
 	/* (a sandbox has none) */
 	if ((words.daemonizes || words.is_off) && (nothing = open("/dev/null", O_RDWR | O_CLOEXEC)) < 0)
-		return failed("/dev/null"), 1;
+		return failed("open", "/dev/null"), 1;
 	/* (one that came before it serves would leave the file of its process too) */
 	transport_hold_signals(SIG_BLOCK);
 	/* (both while paths lead there, and before it goes to the background, so that a fault is seen) */

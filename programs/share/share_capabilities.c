@@ -57,7 +57,7 @@ static int capability_of(const char *name)
 	for (int i = 0; i < (int)(sizeof(known) / sizeof(*known)); i++)
 		if (!strcasecmp(name, known[i]))
 			return i;
-	refuse("--modcaps: unknown capability: %s", name);
+	refuse("--modcaps: unknown capability '%s'", name);
 }
 
 /* Names with + or - before each, and colons between them. */
@@ -72,7 +72,7 @@ void take_capabilities(char *rest)
 		if (!*one)
 			continue;
 		if (*one != '+' && *one != '-')
-			refuse("--modcaps: a capability must begin with + or -: %s", one);
+			refuse("--modcaps: capability '%s' must begin with + or -", one);
 		bit = UINT64_C(1) << capability_of(one + 1);
 		/* (of a capability that is said twice the last one counts) */
 		words.files.more_capabilities &= ~bit;

@@ -25,7 +25,7 @@ bool is_started_by_mount(const char *name)
 void take_from_mount(int count, char **given)
 {
 	if (count < 3)
-		refuse("under this name it is started by mount(8), with a directory and a mount point");
+		refuse("as a helper of mount(8) it requires a directory and a mount point");
 	helped.is_there = true;
 	/* (mount(8) waits for it to end, and says nothing else: so it comes back once the folder is
 	 * mounted) */
@@ -37,7 +37,7 @@ void take_from_mount(int count, char **given)
 #endif
 	for (int found; (found = getopt(count - 2, given + 2, ":sfnvo:t:")) != -1;) {
 		if (found == '?' || found == ':')
-			refuse("unknown option of mount(8): %s", given[optind + 1]);
+			refuse("unrecognized option '%s' of mount(8)", given[optind + 1]);
 		helped.is_fake |= found == 'f';
 		helped.is_sloppy |= found == 's';
 		words.says_more |= found == 'v';
@@ -48,7 +48,7 @@ void take_from_mount(int count, char **given)
 	words.folder = given[1];
 	words.mount_point = given[2];
 	if (optind + 2 < count)
-		refuse("unexpected argument: %s", given[optind + 2]);
+		refuse("unexpected argument '%s'", given[optind + 2]);
 }
 
 void end_helped(void)
@@ -57,7 +57,8 @@ void end_helped(void)
 		return;
 	/* (a remount changes the flags of the mount, and not what the server serves) */
 	if (!helped.is_fake && mount(NULL, words.mount_point, NULL, MS_REMOUNT | words.flags, NULL)) {
-		fprintf(stderr, "nizwarf-share: %s: %s\n", words.mount_point, strerror(errno));
+		fprintf(stderr, "nizwarf-share: cannot remount '%s': %s\n", words.mount_point,
+			strerror(errno));
 		exit(1);
 	}
 	exit(0);

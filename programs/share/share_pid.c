@@ -21,7 +21,7 @@ static atomic_int file = -1;
 /* Says what failed, with the path, as errno has it. */
 static int failed(void)
 {
-	fprintf(stderr, "nizwarf-share: %s: %s\n", path, strerror(errno));
+	fprintf(stderr, "nizwarf-share: cannot use pid file '%s': %s\n", path, strerror(errno));
 	return -1;
 }
 
@@ -83,7 +83,8 @@ int pid_file_take(const char *socket_path)
 	if (come < 0 && errno != EWOULDBLOCK)
 		failed();
 	else
-		fprintf(stderr, "nizwarf-share: another server has %s, or %s\n", socket_path, path);
+		fprintf(stderr, "nizwarf-share: socket '%s' is in use: another server has locked '%s'\n",
+			socket_path, path);
 	/* (what has its name is none of this server's, and stays) */
 	pid_file_leave();
 	return -1;

@@ -60,8 +60,8 @@ _Noreturn void refuse_unknown(const struct option *known, const char *word)
 		snprintf(typed, sizeof(typed), "%.*s", (int)strcspn(word + 2, "="), word + 2);
 	for (; known->name; known++)
 		if (is_typo(typed, known->name))
-			refuse_usage("unknown option: %s (did you mean --%s?)", word, known->name);
-	refuse_usage("unknown option: %s", word);
+			refuse_usage("unrecognized option '%s' (did you mean '--%s'?)", word, known->name);
+	refuse_usage("unrecognized option '%s'", word);
 }
 
 bool xattr_is_renamed(const char *name, struct xattr_name *host)
@@ -74,23 +74,23 @@ bool xattr_is_renamed(const char *name, struct xattr_name *host)
 static void hold_mount_together(void)
 {
 	if (words.files.passthrough && !is_mount())
-		refuse("--passthrough requires a mount point: a virtual machine's kernel cannot use files of the host");
+		refuse("--passthrough requires a mount point: a guest's kernel cannot open files of the host");
 	if (words.files.passthrough && words.files.writeback)
-		refuse("--passthrough cannot be combined with --writeback: Linux has one of them");
+		refuse("--passthrough and --writeback cannot be combined: Linux supports only one of them");
 	/* (Linux opens for writing what the server may have opened for reading alone) */
 	if (words.files.passthrough && words.files.fewer_capabilities & UINT64_C(1) << CAP_DAC_OVERRIDE)
-		refuse("--passthrough requires dac_override, which --modcaps takes away");
+		refuse("--passthrough requires the capability dac_override, which --modcaps drops");
 	if (words.watches && !is_mount())
-		refuse("--watch requires a mount point: a virtual machine receives no notices");
+		refuse("--watch requires a mount point: a virtual machine receives no notifications");
 	if (words.watches && words.files.writeback)
-		refuse("--watch cannot be combined with --writeback: a client that writes later decides the size itself");
+		refuse("--watch and --writeback cannot be combined: with a writeback cache the client sets file sizes itself");
 	/* (a node that is held by a handle has no descriptor by which it is marked) */
 	if (words.watches && words.files.file_handles != HANDLES_NEVER)
-		refuse("--watch cannot be combined with --inode-file-handles: what is watched must stay open");
+		refuse("--watch and --inode-file-handles cannot be combined: watched files must stay open");
 	/* (of what a client writes by itself the server doesn't know) */
 	if (words.files.passthrough && words.files.capability)
 		refuse("--passthrough cannot be combined with an --xattrmap that renames " XATTR_NAME_CAPS
-		       ": Linux takes capabilities away by that name alone");
+		       ": Linux drops file capabilities only under that name");
 	/* (over a mount data go through buffers that lie anywhere) */
 	if (words.files.allow_direct && is_mount())
 		refuse("--allow-direct-io requires --socket-path or --fd");
@@ -100,10 +100,10 @@ static void hold_mount_together(void)
 static void hold_migration_together(void)
 {
 	if (words.migrates && is_mount())
-		refuse("--migration-* options require --socket-path or --fd");
+		refuse("the --migration-* options require --socket-path or --fd");
 	if (words.files.migration_mode == MIGRATES_BY_HANDLES && (words.files.verifies || words.confirms))
 		refuse("--migration-mode=file-handles cannot be combined with --migration-verify-handles or "
-		       "--migration-confirm-paths: a handle is the file's own");
+		       "--migration-confirm-paths: a handle identifies its file");
 	if (words.files.takes_unlinked && words.files.migration_mode != MIGRATES_BY_HANDLES)
 		refuse("--migration-unlinked-files requires --migration-mode=file-handles");
 }
@@ -112,7 +112,7 @@ static void hold_migration_together(void)
 static void hold_to_user(void)
 {
 	if (is_mount() && geteuid() != 0)
-		refuse("a mount requires root");
+		refuse("mounting requires root");
 	/* (chroot(2) takes a capability: who isn't root gets such by a namespace of users, with the
 	 * other sandbox) */
 	if (words.sandbox == SANDBOX_CHROOT && geteuid() != 0)
@@ -121,7 +121,7 @@ static void hold_to_user(void)
 		refuse("--modcaps requires root");
 	/* (root makes no namespace of users, and needs none) */
 	if ((words.uids.count || words.gids.count) && geteuid() == 0)
-		refuse("--uid-map and --gid-map are for users other than root: root's server has all ids");
+		refuse("--uid-map and --gid-map are only for users other than root, who has all ids");
 	if ((words.uids.count || words.gids.count) && words.sandbox >= 0 &&
 	    words.sandbox != SANDBOX_NAMESPACE)
 		refuse("--uid-map and --gid-map require --sandbox=namespace");
@@ -137,22 +137,22 @@ void hold_together(void)
 	if (words.socket_path && !*words.socket_path)
 		refuse("--socket-path must not be empty");
 	if (is_mount() && !words.mount_point)
-		refuse_usage("missing mount point, or --socket-path");
+		refuse_usage("missing mount point or --socket-path");
 	if (words.socket_path && words.fd >= 0)
-		refuse("--socket-path cannot be combined with --fd");
+		refuse("--socket-path and --fd cannot be combined");
 	if (words.socket_group && !words.socket_path)
 		refuse("--socket-group requires --socket-path");
 	hold_to_user();
 	/* What is served together. */
 	if (words.files.posix_acl && (xattr_is_renamed(XATTR_NAME_POSIX_ACL_ACCESS, &host) ||
 				      xattr_is_renamed(XATTR_NAME_POSIX_ACL_DEFAULT, &host)))
-		refuse("--posix-acl requires access control lists under their own names, because the host looks at "
-		       "them: --xattrmap must begin with :ok:all:system.posix_acl_:system.posix_acl_:");
+		refuse("--posix-acl requires an --xattrmap that does not rename access control lists: begin it with "
+		       ":ok:all:system.posix_acl_:system.posix_acl_:");
 	if (words.files.posix_acl &&
 	    (ids_are_translated(&words.files.users) || ids_are_translated(&words.files.groups)))
-		refuse("--posix-acl cannot be combined with --translate-uid or --translate-gid: lists have ids too");
+		refuse("--posix-acl cannot be combined with --translate-uid or --translate-gid: access control lists contain ids too");
 	hold_mount_together();
 	hold_migration_together();
 	if (words.filter > FILTER_NONE && !has_filter)
-		refuse("--seccomp: this program was built without libseccomp");
+		refuse("--seccomp is not supported: built without libseccomp");
 }

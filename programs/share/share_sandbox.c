@@ -34,10 +34,10 @@
 #include "share_sandbox.h"
 #include "transport.h"
 
-/* Says what failed, as errno has it: -1. */
-static int failed(const char *what)
+/* Prints that an action failed, and why by errno. Returns -1. */
+static int failed(const char *action)
 {
-	transport_say("nizwarf-share", "%s: %s", what, strerror(errno));
+	transport_say("nizwarf-share", "cannot %s: %s", action, strerror(errno));
 	return -1;
 }
 
@@ -126,7 +126,7 @@ static void pass_on(struct server *server, int signal)
 	const union sigval unmounted = { .sival_int = FUSE_DEVICE_UNMOUNTED };
 
 	if (signal < 0) {
-		transport_say("nizwarf-share", "the server doesn't end, and is killed");
+		transport_say("nizwarf-share", "the server does not exit: killing it");
 		kill(server->child, SIGKILL);
 		server->end = KILLED;
 		return;
@@ -177,7 +177,7 @@ static _Noreturn void stand_by(pid_t child, int signals, const struct outside *o
 	if (outside->end)
 		outside->end(outside->user);
 	if (WIFSIGNALED(status))
-		transport_say("nizwarf-share", "signal %d ended the server", WTERMSIG(status));
+		transport_say("nizwarf-share", "the server was killed by signal %d", WTERMSIG(status));
 	_exit(is_left ? 1 : WIFEXITED(status) ? WEXITSTATUS(status) : server.end != KILLED);
 }
 
@@ -206,14 +206,14 @@ int sandbox_fork(enum sandbox sandbox, const struct id_map *uids, const struct i
 		return -1;
 	/* (that of processes begins with the child; the others are the child's alone) */
 	if (sandbox == SANDBOX_NAMESPACE && unshare(CLONE_NEWPID))
-		return failed("--sandbox=namespace");
+		return failed("create the namespaces of --sandbox=namespace");
 	if (pipe2(asks, O_CLOEXEC) || pipe2(tells, O_CLOEXEC))
-		return failed("a pipe");
+		return failed("create a pipe");
 	/* (before there is a child: so neither of them loses one that comes early) */
 	block_signals(&awaited);
 	signals = signalfd(-1, &awaited, SFD_CLOEXEC);
 	if (signals < 0)
-		return failed("signalfd");
+		return failed("create a signalfd");
 	child = fork();
 	if (child < 0)
 		return failed("fork");
@@ -270,8 +270,8 @@ static int open_copy(void)
 #endif
 	if (fd >= 0)
 		return fd;
-	fputs("nizwarf-share: warning: --sandbox=chroot without CAP_SYS_ADMIN, or before Linux 5.2: code that got "
-	      "into the server could leave the directory\n",
+	fputs("nizwarf-share: warning: --sandbox=chroot without CAP_SYS_ADMIN or before Linux 5.2: "
+	      "a compromised server could leave the directory\n",
 	      stderr);
 	return open("/proc/self/fd", KEEPS_PATH);
 }
@@ -290,10 +290,10 @@ static int pivot(const char *folder, int *proc)
 	    syscall(SYS_pivot_root, ".", ".") || umount2(".", MNT_DETACH) || chdir("/")) {
 		const bool is_no_mount = errno == EINVAL;
 
-		failed("--sandbox=namespace");
+		failed("enter --sandbox=namespace");
 		if (is_no_mount)
-			fputs("nizwarf-share: its root is no mount point, as in a chroot: --sandbox=chroot or "
-			      "--sandbox=none serves there\n",
+			fputs("nizwarf-share: the root directory is not a mount point, as in a chroot: "
+			      "use --sandbox=chroot or --sandbox=none\n",
 			      stderr);
 		return -1;
 	}
@@ -307,7 +307,7 @@ static int drop_capabilities(void)
 	struct __user_cap_header_struct header = { _LINUX_CAPABILITY_VERSION_3, 0 };
 	const struct __user_cap_data_struct none[2] = { 0 };
 
-	return syscall(SYS_capset, &header, none) ? failed("capabilities") : 0;
+	return syscall(SYS_capset, &header, none) ? failed("drop capabilities") : 0;
 }
 
 /* Whether no device can be opened from now on in the mount of the root and in the mounts below it: all of them become
@@ -346,20 +346,20 @@ int sandbox_enter(enum sandbox sandbox, const char *folder, int *root, int *proc
 	} else {
 		*proc = sandbox == SANDBOX_CHROOT ? open_copy() : open("/proc/self/fd", KEEPS_PATH);
 		if (*proc < 0)
-			return failed("/proc/self/fd");
+			return failed("open '/proc/self/fd'");
 	}
 	if (sandbox == SANDBOX_CHROOT) {
 		if (chdir(folder) || chroot(".") || chdir("/"))
-			return failed("--sandbox=chroot");
+			return failed("enter --sandbox=chroot");
 		folder = "/";
 	}
 	/* (from here on files are named by these two descriptors, and by no path) */
 	*root = open(folder, KEEPS_PATH);
 	if (*root < 0)
-		return failed(folder);
+		return failed("open the shared directory");
 	/* (a descriptor is named by its number alone there, for calls that take a path) */
 	if (fchdir(*proc))
-		return failed("/proc/self/fd");
+		return failed("change to '/proc/self/fd'");
 	empty_bound();
 	return sandbox == SANDBOX_NAMESPACE && geteuid() != 0 ? drop_capabilities() : 0;
 }
@@ -584,7 +584,7 @@ static scmp_filter_ctx begin_rules(enum calls_filter filter)
 	scmp_filter_ctx rules = seccomp_init(otherwise);
 
 	if (!rules)
-		failed("--seccomp");
+		failed("create the --seccomp filter");
 	return rules;
 }
 
@@ -596,7 +596,7 @@ static int end_rules(scmp_filter_ctx rules, int error)
 		error = seccomp_load(rules);
 	seccomp_release(rules);
 	errno = -error;
-	return error ? failed("--seccomp") : 0;
+	return error ? failed("load the --seccomp filter") : 0;
 }
 
 /* What the process calls that names files; and by ioctl and fcntl, of the device and of what it was given. */
@@ -671,7 +671,7 @@ int sandbox_filter(enum calls_filter filter, unsigned may)
 	(void)may;
 	if (filter == FILTER_NONE)
 		return 0;
-	fputs("nizwarf-share: --seccomp: it was built without libseccomp\n", stderr);
+	fputs("nizwarf-share: --seccomp is not supported: built without libseccomp\n", stderr);
 	return -1;
 }
 #endif

@@ -16,10 +16,10 @@
 #include <unistd.h>
 #include "share_syslog.h"
 
-/* Says what failed, where it still can be read: on standard error. */
-static int failed(const char *what)
+/* Prints on standard error that an action failed, and why by errno. Returns -1. */
+static int failed(const char *action)
 {
-	fprintf(stderr, "nizwarf-share: --syslog: %s: %s\n", what, strerror(errno));
+	fprintf(stderr, "nizwarf-share: --syslog: cannot %s: %s\n", action, strerror(errno));
 	return -1;
 }
 
@@ -82,18 +82,18 @@ int syslog_start(void)
 
 	if (!is_there())
 		/* (that is no error, as nobody would be told of it later either) */
-		return failed(_PATH_LOG), 0;
+		return failed("connect to '" _PATH_LOG "'"), 0;
 	if (pipe2(ends, O_CLOEXEC))
-		return failed("a pipe");
+		return failed("create a pipe");
 	child = fork();
 	if (!child)
 		begin_log(ends);
 	close(ends[0]);
 	if (child < 0 || waitpid(child, &status, 0) != child || status || dup2(ends[1], STDERR_FILENO) < 0) {
 		close(ends[1]);
-		return failed("a process");
+		return failed("start the logging process");
 	}
 	close(ends[1]);
 	/* (a log that is slow holds up no request: what it doesn't take is left out) */
-	return fcntl(STDERR_FILENO, F_SETFL, O_WRONLY | O_NONBLOCK) ? failed("a pipe") : 0;
+	return fcntl(STDERR_FILENO, F_SETFL, O_WRONLY | O_NONBLOCK) ? failed("set up the pipe") : 0;
 }

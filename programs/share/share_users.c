@@ -16,9 +16,10 @@
 #include "say.h"
 #include "share_users.h"
 
-static int failed(const char *what)
+/* Prints that an action failed, and why by errno. Returns -1. */
+static int failed(const char *action)
 {
-	transport_say("nizwarf-share", "--sandbox=namespace: %s: %s", what, strerror(errno));
+	transport_say("nizwarf-share", "--sandbox=namespace: cannot %s: %s", action, strerror(errno));
 	return -1;
 }
 
@@ -70,7 +71,8 @@ static bool run(const char *program, pid_t of, const struct id_map *map)
 	child = fork();
 	if (!child) {
 		execvp(program, words);
-		failed(program);
+		transport_say("nizwarf-share", "--sandbox=namespace: cannot run '%s': %s", program,
+			      strerror(errno));
 		_exit(1);
 	}
 	return child > 0 && waitpid(child, &status, 0) == child && WIFEXITED(status) && !WEXITSTATUS(status);
@@ -107,17 +109,17 @@ static int leave(const int ends[2], const struct id_map *uids, const struct id_m
 	if (unshare(CLONE_NEWUSER) || (own_gid && put("/proc/self/setgroups", "deny")) ||
 	    (own_uid && put_own("/proc/self/uid_map", uids)) ||
 	    (own_gid && put_own("/proc/self/gid_map", gids))) {
-		failed("a namespace of users");
-		transport_say("nizwarf-share", "--sandbox=none serves without");
+		failed("create a user namespace");
+		transport_say("nizwarf-share", "use --sandbox=none to serve without a sandbox");
 		return -1;
 	}
 	/* (the namespace is there: the maps of more ids can be written from outside) */
 	if (write(ends[1], "", 1) != 1 || waitpid(child, &status, 0) != child)
-		return failed("ids of users");
+		return failed("map user ids");
 	if (!WIFEXITED(status) || WEXITSTATUS(status)) {
 		transport_say(
 			"nizwarf-share",
-			"--uid-map, --gid-map: the ids can't be mapped so; subuid(5) and subgid(5) say which may be");
+			"--uid-map, --gid-map: these ids may not be mapped: see subuid(5) and subgid(5)");
 		return -1;
 	}
 	return 0;
@@ -130,7 +132,7 @@ int users_leave(const struct id_map *uids, const struct id_map *gids)
 	int ends[2], status;
 
 	if (pipe2(ends, O_CLOEXEC))
-		return failed("a pipe");
+		return failed("create a pipe");
 	/* (a map that isn't said is of the own id) */
 	status = leave(ends, uids->count ? uids : &uid, gids->count ? gids : &gid);
 	close(ends[0]);
@@ -151,7 +153,7 @@ int users_be_root(const struct id_map *uids, const struct id_map *gids)
 {
 	/* (by the capabilities of its own namespace) */
 	if ((has_root(gids) && setresgid(0, 0, 0)) || (has_root(uids) && setresuid(0, 0, 0)))
-		return failed("to be root");
+		return failed("become root in the user namespace");
 	return 0;
 }
 

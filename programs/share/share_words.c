@@ -181,8 +181,8 @@ static void take_xattr_map(const char *rules)
 	if (!words.files.xattr_map) {
 		if (rule)
 			snprintf(text, sizeof(text), "rule %u: ", rule);
-		refuse("--xattrmap='%s': %s%s (an example is --xattrmap=:map::user.virtiofs.:)", rules, text,
-		       why);
+		refuse("invalid --xattrmap='%s': %s%s (a valid example is --xattrmap=:map::user.virtiofs.:)",
+		       rules, text, why);
 	}
 	words.files.capability = xattr_is_renamed(XATTR_NAME_CAPS, &capability) ? capability.bytes : NULL;
 }
@@ -259,10 +259,10 @@ static _Noreturn void refuse_option(const char *key, const char *value)
 	const enum values takes = take_flag(key) || take_switch(key) ? TAKES_NONE : values_of(key);
 
 	if (takes == TAKES_NONE && value)
-		refuse("option doesn't take a value: -o %s=%s", key, value);
+		refuse("option '-o %s' doesn't allow an argument", key);
 	if (takes == TAKES_ONE)
-		refuse("option requires a value: -o %s", key);
-	refuse_usage("unknown option: -o %s", key);
+		refuse("option '-o %s' requires an argument", key);
+	refuse_usage("unrecognized option '-o %s'", key);
 }
 
 static bool take_as_word(const char *key, char *value);
@@ -468,15 +468,16 @@ static void take_range(const char *key, char *rest, struct id_map *map)
 	struct id_range *range;
 
 	if (len < 2 || isalnum((unsigned char)*sign) || rest[len - 1] != *sign)
-		refuse("%s must have the form :ID:HOST:COUNT:, as :0:100000:65536:, not '%s'", key, rest);
+		refuse("%s must have the form :ID:HOST:COUNT:, such as :0:100000:65536:, not '%s'", key,
+		       rest);
 	if (map->count == MOST_RANGES)
-		refuse("%s can be given %d times at most", key, MOST_RANGES);
+		refuse("%s can be given at most %d times", key, MOST_RANGES);
 	rest[len - 1] = 0;
 	rest++;
 	for (int i = 0; i < 3; i++)
 		value[i] = number(key, strsep(&rest, sign), i == 2, UINT32_MAX - (i == 2 ? 0 : 1));
 	if (rest || value[0] + value[2] > UINT32_MAX || value[1] + value[2] > UINT32_MAX)
-		refuse("%s must have three numbers, and no id above 4294967294", key);
+		refuse("%s must have three numbers and no id above 4294967294", key);
 	range = &map->ranges[map->count++];
 	*range = (struct id_range){ (uint32_t)value[0], (uint32_t)value[1], (uint32_t)value[2] };
 }
@@ -487,7 +488,7 @@ static void take_translation(const char *key, const char *rule, struct ids *ids)
 	const char *why = ids_add(ids, rule);
 
 	if (why)
-		refuse("%s=%s: %s", key, rule, why);
+		refuse("invalid %s=%s: %s", key, rule, why);
 }
 
 /* Takes a word that has no value, and says that something is so, or not. Whether it is one. */
@@ -703,9 +704,9 @@ static _Noreturn void refuse_word(int found, const char *word)
 	const char letter[] = { '-', (char)optopt, 0 };
 
 	if (found == ':')
-		refuse_usage("option requires an argument: %s", word);
+		refuse_usage("option '%s' requires an argument", word);
 	if (found == '?' && optopt >= SHARED_DIR)
-		refuse_usage("option doesn't take an argument: %s", word);
+		refuse_usage("option '%.*s' doesn't allow an argument", (int)strcspn(word, "="), word);
 	refuse_unknown(known_words, found == '?' && optopt ? letter : word);
 }
 
@@ -761,7 +762,7 @@ static void take_given(int count, char **given)
 	if (is_mount() && optind < count)
 		words.mount_point = given[optind++];
 	if (optind < count)
-		refuse_usage("unexpected argument: %s", given[optind]);
+		refuse_usage("unexpected argument '%s'", given[optind]);
 }
 
 /* It comes back with words that go together, or not at all. What wasn't said is filled in here, where

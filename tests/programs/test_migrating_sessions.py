@@ -397,7 +397,7 @@ def test_a_handle_leads_to_a_file_of_the_directory_and_to_no_other_one(serve, di
 def test_a_target_must_have_the_options_that_the_client_agreed_on(serve, begin):
     options = "--writeback", "--posix-lock", "--flock"
     _, state = begin(*options)
-    refuse(serve(), state, "options")
+    refuse(serve(), state, "features")
     take(serve(*options), state)
 
 

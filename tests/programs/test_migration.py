@@ -347,7 +347,7 @@ def test_state_without_a_session_has_no_files(serve, directory):
 def test_state_of_version_1_is_refused_and_the_message_has_both_versions(serve):
     target = serve()
     assert not target.connect(init=False).load(Device(version=1).bytes())
-    assert "version 1, and this server takes version 2" in target.stderr()
+    assert "unsupported state version 1: this server supports version 2" in target.stderr()
 
 
 # Numbers.

@@ -306,7 +306,7 @@ def test_files_are_served_by_requests_once_the_process_that_names_them_has_ended
     put(one, b"4")
     assert got(one) == b"4"
     server.end()
-    assert "files are served by requests" in server.stderr()
+    assert "files are read and written by requests" in server.stderr()
 
 
 @pytest.mark.parametrize("way_of_end", [signal.SIGTERM, signal.SIGKILL])

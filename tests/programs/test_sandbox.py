@@ -10,7 +10,7 @@ import pytest
 from building import REPOSITORY, run
 
 pytestmark = pytest.mark.root
-KILLED = "nizwarf-share: signal 31 ended the server\n"
+KILLED = "nizwarf-share: the server was killed by signal 31\n"
 SHARE, TRANSPORT = REPOSITORY / "programs/share", REPOSITORY / "programs/transport"
 
 

@@ -264,7 +264,7 @@ def test_a_machine_without_lists_is_refused_and_one_with_lists_served_with_the_u
     client = server.connect(init=False)
     with pytest.raises(OSError) as refused:
         client.init(1 << 30)
-    assert refused.value.errno == errno.EPROTO and "a client has no access control lists" in server.stderr()
+    assert refused.value.errno == errno.EPROTO and "the client does not support access control lists" in server.stderr()
     client.init(1 << 30 | LISTS)
     client.expect(Op.MKDIR, record(Op.MKDIR, mode=0o777, umask=0o027) + b"made\0")
     assert (directory / "made").stat().st_mode & 0o777 == 0o750

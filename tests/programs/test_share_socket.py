@@ -71,7 +71,7 @@ def test_a_file_of_another_program_in_place_of_that_of_the_process_stays(share, 
     other.write_text("other")
     place(other, pid)
     ended = subprocess.run([share, f"--socket-path={path}", directory], stderr=subprocess.PIPE, text=True, timeout=100)
-    assert ended.returncode != 0 and "socket.pid: " in ended.stderr
+    assert ended.returncode != 0 and "cannot use pid file" in ended.stderr and "socket.pid': " in ended.stderr
     assert other.read_text() == "other" and os.path.lexists(pid)
 
 
@@ -237,11 +237,11 @@ def test_with_syslog_messages_go_to_the_log_alone(serve, system_log):
         while not any(words in it for it in lines):
             lines.append(system_log.recv(2000).decode())
 
-    receive(" is served on ")
+    receive(": serving ")
     # (a front end that sends what cannot be)
     server.connect(begin=False).socket.sendall(bytes(12))
     receive("disconnecting")
-    assert any("nizwarf-share[" in it and ": --tag=data is ignored" in it for it in lines)
+    assert any("nizwarf-share[" in it and ": warning: ignoring --tag=data:" in it for it in lines)
     # (13: a notice of a user's program)
     assert all(it.startswith("<13>") for it in lines)
     server.end()
@@ -257,7 +257,7 @@ def test_with_syslog_a_log_that_is_missing_is_named_and_messages_go_to_standard_
     assert front.recv(1) == b""
     server.end()
     # (other messages go to standard error, too)
-    assert "--syslog: /dev/log: " in server.stderr() and "disconnecting" in server.stderr()
+    assert "--syslog: cannot connect to '/dev/log': " in server.stderr() and "disconnecting" in server.stderr()
 
 
 # ---- what it may do

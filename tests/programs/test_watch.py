@@ -265,4 +265,4 @@ def test_where_few_files_may_be_watched_the_others_are_remembered_for_a_second(w
     assert wait_until(lambda: look("mapping", "gone") == ["NEW", "error 2"], SOON)
     process.terminate()
     said = process.communicate(timeout=60)[1]
-    assert "not all files can be watched" in said and "files are served by requests" in said
+    assert "cannot watch all files" in said and "files are read and written by requests" in said
