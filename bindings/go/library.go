@@ -248,7 +248,7 @@ func (w *worker) number64(it uint64, err error) error {
 // count sets a number of bytes, of which at most so many were requested.
 func (w *worker) count(count int64, err error, most uint64) error {
 	if err == nil && (count < 0 || uint64(count) > most) {
-		return fmt.Errorf("%d bytes, where at most %d were requested", count, most)
+		return fmt.Errorf("%d bytes exceed the %d that were requested", count, most)
 	}
 	return w.number64(uint64(count), err)
 }
@@ -405,7 +405,7 @@ func (w *worker) setattr() error {
 func (w *worker) readlink() error {
 	target, err := w.fs.Readlink(w.who, w.node)
 	if err == nil && len(target) > C.NIZWARF_MAX_LINK {
-		return fmt.Errorf("a link of %d bytes", len(target))
+		return fmt.Errorf("the link's target is too long: %d bytes", len(target))
 	}
 	return w.text([]byte(target), err)
 }
@@ -487,7 +487,7 @@ func (w *worker) list() error {
 			return false
 		}
 		if it.Name == "" || strings.Contains(it.Name, "\x00") {
-			wrong = fmt.Errorf("%q is no name", it.Name)
+			wrong = fmt.Errorf("invalid name %q", it.Name)
 			return false
 		}
 		entry := C.nizwarf_dirent{ino: C.uint64_t(it.Ino), offset: C.uint64_t(it.Offset), name: (*C.uint8_t)(&names[0]),

@@ -91,7 +91,7 @@ func (s *server) send(reply []byte) {
 	if err == nil || isEnd(err) || errors.Is(err, syscall.ENOENT) { // nobody waits for it any longer
 		return
 	}
-	log.Printf("nizwarf: a reply could not be sent: %v", err)
+	log.Printf("nizwarf: cannot send a reply: %v", err)
 	// (an error of this one says that the process has its error already)
 	_, _ = syscall.Write(s.device, fault(binary.LittleEndian.Uint64(reply[8:]), syscall.EIO))
 }

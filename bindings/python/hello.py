@@ -2,8 +2,8 @@
 """A file system of one file, `hello`.
 
 Usage: hello.py MOUNTPOINT, or hello.py --fd N
-Mounts the file, as root, and serves it until it is unmounted, which SIGINT and SIGTERM do too; or serves it at the socket
-with the descriptor N. NIZWARF_LIB is the path of the library if it is not installed.
+Mounts the file system, which requires root, and serves it until it is unmounted; SIGINT and SIGTERM unmount it too. With
+--fd, serves it on the socket with the descriptor N. NIZWARF_LIB is the path of the library if it is not installed.
 """
 import errno
 import stat

@@ -1,7 +1,7 @@
 /* A check in front of a server of FUSE that trusts whoever sends it requests, as libfuse does: it leaves
  * to the kernel, or to who sends in its place, that they are whole.
  *
- * Usage: check DESCRIPTOR PROGRAM [WORD..]
+ * Usage: check DESCRIPTOR PROGRAM [ARGUMENT..]
  *
  * At the other end of the descriptor is the peer, who may send anything: it is a socket that keeps
  * messages apart, as SOCK_SEQPACKET. The program is started with one word more, the descriptor of another
@@ -46,9 +46,9 @@ enum {
 /* What becomes of a request: it is handed on, or answered here with some bytes, or none. */
 enum { HAND_ON = -1 };
 
-static const char usage[] = "Usage: check DESCRIPTOR PROGRAM [WORD..]\n"
-			    "Hands requests of FUSE that are whole on to the program, which serves the\n"
-			    "descriptor that is its last word, and answers the others itself.\n";
+static const char usage[] = "Usage: check DESCRIPTOR PROGRAM [ARGUMENT..]\n"
+			    "Passes well-formed FUSE requests of the descriptor to the program, and replies\n"
+			    "to the others itself. The program gets a descriptor as one more argument.\n";
 /* A copy of the peer's message, and the reply that is made or handed back: the peer can't change either while it is
  * looked at. */
 static unsigned char request[LONGEST], room[LONGEST];
@@ -62,7 +62,7 @@ static enum state { NEW, ASKED, AGREED, OVER } state;
 /* Ends with status 1, and says why by errno. */
 static _Noreturn void stop(const char *what)
 {
-	fprintf(stderr, "check: %s: %s\n", what, strerror(errno));
+	fprintf(stderr, "check: cannot %s: %s\n", what, strerror(errno));
 	exit(1);
 }
 
@@ -158,7 +158,7 @@ static void reply(size_t size)
 		return;
 	/* (so it calls itself once at most) */
 	if (errno != EMSGSIZE || size <= sizeof(head))
-		stop("a reply");
+		stop("send a reply");
 	memcpy(&head, room, sizeof(head));
 	head.len = sizeof(head);
 	head.error = -EIO;
@@ -173,12 +173,12 @@ static int hand_back(void)
 	const ssize_t size = recv(behind, room, sizeof(room), MSG_TRUNC);
 
 	if (size < 0 && errno != ECONNRESET)
-		stop("the program's reply");
+		stop("receive a reply of the program");
 	if (size <= 0)
 		return 0;
 	if ((size_t)size > sizeof(room)) {
 		errno = EMSGSIZE;
-		stop("the program's reply");
+		stop("receive a reply of the program");
 	}
 	/* (nothing else was handed on meanwhile: what is no notice is the reply to INIT) */
 	if (state == ASKED)
@@ -200,7 +200,7 @@ static int hand_on(size_t size)
 		if (errno == EPIPE || errno == ECONNRESET)
 			return -1;
 		if (errno != EAGAIN || (poll(&wait, 1, -1) < 0 && errno != EINTR))
-			stop("a request");
+			stop("pass on a request");
 		/* (a reply in `room`, which `take` has not filled yet) */
 		if (wait.revents & POLLIN && !hand_back())
 			return -1;
@@ -219,7 +219,7 @@ static int take(unsigned long *asked, unsigned long *handed)
 	int given;
 
 	if (size < 0 && errno != ECONNRESET)
-		stop("a request");
+		stop("receive a request");
 	if (size <= 0)
 		return 0;
 	++*asked;
@@ -271,7 +271,7 @@ static void widen(int fd)
 
 	if (setsockopt(fd, SOL_SOCKET, SO_SNDBUFFORCE, &size, sizeof(size)) &&
 	    setsockopt(fd, SOL_SOCKET, SO_SNDBUF, &size, sizeof(size)))
-		stop("the descriptor");
+		stop("use the descriptor as a socket");
 }
 
 /* Starts the program with the other end of `behind`. It has no other descriptor of ours, so the program can't reach
@@ -283,7 +283,7 @@ static void start(int count, char **words)
 
 	/* (no SOCK_CLOEXEC: the program is to have its end) */
 	if (!program || socketpair(AF_UNIX, SOCK_SEQPACKET, 0, ends))
-		stop("a socket");
+		stop("create a socket pair");
 	widen(ends[0]);
 	widen(ends[1]);
 	memcpy(program, words, (size_t)count * sizeof(*program));
@@ -316,7 +316,7 @@ int main(int count, char **words)
 	widen(peer); /* which also finds out if it is a socket */
 	start(count - 2, words + 2);
 	gone = serve(&asked, &handed);
-	fprintf(stderr, "check: %lu requests, %lu handed on; the %s has gone\n", asked, handed,
+	fprintf(stderr, "check: %lu requests, %lu passed on: the %s has disconnected\n", asked, handed,
 		gone ? "peer" : "program");
 	/* (by which a program that serves still learns to end) */
 	close(behind);

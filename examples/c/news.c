@@ -10,7 +10,7 @@
  *	retrieve		prints what of it is there
  *	name NAME, quietname NAME	its name, with a notice and without
  *	delete NAME, prune, poll, resend, epoch		these notices
- *	show			prints the locks, and how many lookups were given back
+ *	show			prints the locks, and how many lookups were forgotten
  */
 #define _GNU_SOURCE
 #include <inttypes.h>
@@ -539,7 +539,7 @@ static void set_name(const char *to)
 static void show(void)
 {
 	pthread_mutex_lock(&lock);
-	printf("lookups given back: %" PRIu64 "\n", forgotten);
+	printf("lookups forgotten: %" PRIu64 "\n", forgotten);
 	for (int i = 0; i < MOST_LOCKS; i++)
 		if (held[i].is_used)
 			printf("held %d %" PRIu32 " %" PRIu64 " %" PRIu64 "\n", held[i].flock,

@@ -7,12 +7,12 @@
 #include "nizwarf_tree.h"
 
 /* Ends the program with status 1 at what isn't so. */
-#define CHECK(fact)                                                                     \
-	do {                                                                            \
-		if (!(fact)) {                                                          \
-			fprintf(stderr, "serve.c, line %d: not %s\n", __LINE__, #fact); \
-			return 1;                                                       \
-		}                                                                       \
+#define CHECK(fact)                                                                             \
+	do {                                                                                    \
+		if (!(fact)) {                                                                  \
+			fprintf(stderr, "serve: line %d: check failed: %s\n", __LINE__, #fact); \
+			return 1;                                                               \
+		}                                                                               \
 	} while (0)
 
 int main(void)
@@ -74,6 +74,6 @@ int main(void)
 	/* (a second end finds none, and does nothing) */
 	CHECK(nizwarf_server_free(&server) == NIZWARF_OK &&
 	      nizwarf_server_free(&server) == NIZWARF_NO_SERVER);
-	puts("INIT, MKDIR and LOOKUP were answered.");
+	puts("INIT, MKDIR and LOOKUP succeeded.");
 	return 0;
 }

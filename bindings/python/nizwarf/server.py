@@ -125,7 +125,7 @@ class _Reply:
     @staticmethod
     def _at_most(most: int, count: int) -> int:
         if not 0 <= count <= most:
-            raise ValueError(f"{count} bytes, where at most {most} were requested")
+            raise ValueError(f"{count} bytes exceed the {most} that were requested")
         return count
 
 
@@ -364,7 +364,7 @@ class _Server:
         left, plus = min(request.size, request.reply_size - _HEADER), bool(request.has & Has.PLUS)
         for name, offset, ino, kind in self.file_system.readdir(request, request.node, request.offset, _file(request)):
             if not name or b"\0" in name:
-                raise ValueError(f"{name!r} is no name")
+                raise ValueError(f"invalid name {name!r}")
             left -= library().nizwarf_record_size(len(name) + 1, plus)
             if left < 0:
                 break

@@ -14,10 +14,11 @@ use std::process::{exit, Command};
 use std::sync::atomic::{AtomicU64, Ordering};
 use std::thread;
 
-const USAGE: &str = "Usage: check MOUNTPOINT PROGRAM [WORD..], as root: mounts what PROGRAM serves at its
-       standard input, and passes only well-formed requests on to it. SIGINT and SIGTERM
-       unmount it.
-       check - PROGRAM [WORD..]: the same for requests from standard input.";
+const USAGE: &str = "Usage: check MOUNTPOINT PROGRAM [ARGUMENT..]
+       check - PROGRAM [ARGUMENT..]
+Mounts the file system that PROGRAM serves on its standard input, which requires root, and passes
+only well-formed requests to it; SIGINT and SIGTERM unmount it. With -, the requests come from
+standard input.";
 
 /// The state of the session.
 struct Check {
@@ -58,7 +59,7 @@ impl Check {
             Decoded::Finished(mut done) => match done.outcome {
                 Ok(()) => Verdict::Reply(done.reply.bytes().to_vec()),
                 Err(refusal) => {
-                    eprintln!("check: a request of {} bytes: {refusal}", request.len());
+                    eprintln!("check: invalid request of {} bytes: {refusal}", request.len());
                     Verdict::Reply(fault(request))
                 }
             },
@@ -166,7 +167,7 @@ fn block_signals() {
 /// Unmounts, if possible, because all operations fail on a mount that nobody serves.
 fn unmount(folder: &str) {
     if let Err(error) = Command::new("umount").args(["-i", "-l", "--", folder]).status() {
-        eprintln!("check: umount: {error}");
+        eprintln!("check: cannot unmount: {error}");
     }
 }
 

@@ -4,9 +4,10 @@ use nizwarf::*;
 use std::{env, ffi::CStr, fs::File, io::*, os::unix::io::AsFd, process::exit, time::Duration};
 
 const TEXT: &[u8] = b"Hello, world!\n";
-const USAGE: &str =
-    "Usage: hello MOUNTPOINT: mounts a file there, by fusermount3, until it is unmounted or this ends.
-       hello -: serves it at the socket that is standard input.";
+const USAGE: &str = "Usage: hello MOUNTPOINT
+       hello -
+Mounts a file system with one file by fusermount3, and serves it until it is unmounted or the
+program ends; with -, serves it on the socket that is standard input.";
 struct Hello;
 struct Items(u64);
 

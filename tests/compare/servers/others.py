@@ -189,12 +189,12 @@ def place_of(log):
 def judge(peer, asked, skipped):
     """What came of one session, by what was answered and by how the process ended."""
     answered, last, log, status = (ask_pair if peer.how == "pair" else ask_vhost)(peer, asked)
-    handed = re.search(r"^check: (\d+) requests, (\d+) handed on", log, re.M)
+    handed = re.search(r"^check: (\d+) requests, (\d+) passed on", log, re.M)
     handed = (int(handed[1]), int(handed[2])) if handed else (0, 0)
     # (SIGBUS and SIGSEGV: a page after each message can't be read)
     if "ERROR: AddressSanitizer" in log or status in (-7, -11):
         return Found(PAST, place_of(log), handed)
-    alive = last is not None and last[:16].hex() == beside.ENOSYS.split()[1] and "the program has gone" not in log
+    alive = last is not None and last[:16].hex() == beside.ENOSYS.split()[1] and "the program has disconnected" not in log
     # (SIGABRT, as of an abort of Rust's or of the C library)
     if not alive and re.search(r"panicked at|^panic: |^fatal error: ", log, re.M) or status == -6:
         return Found(PANIC, place_of(log), handed)

@@ -62,7 +62,8 @@ func main() {
 	device := flag.Int("fd", -1, "serve at the socket with this descriptor `N`, and mount nothing")
 	flag.Usage = func() {
 		fmt.Fprint(flag.CommandLine.Output(), "Usage: hello MOUNTPOINT, or hello --fd N\n"+
-			"Mounts a file, and serves it until it is unmounted, which SIGINT and SIGTERM do too.\n")
+			"Mounts a file system with one file, and serves it until it is unmounted.\n"+
+			"SIGINT and SIGTERM unmount it too.\n")
 		flag.PrintDefaults()
 	}
 	flag.Parse()
