@@ -1,11 +1,12 @@
 #!/bin/sh
-# Installs what lies beside it: headers, libraries, programs and pages.
+# Installs the files beside it: headers, libraries, programs and manual pages.
 #
 # Usage: ./install.sh [--uninstall] [DESTDIR [PREFIX]]
-# It goes into the folder DESTDIR/PREFIX, and is used from PREFIX: that is /usr/local if none is named, and
-# DESTDIR is empty. What was installed there before is removed first. The list of all that it installs is
-# PREFIX/share/nizwarf/installed; with --uninstall that is removed, and nothing is installed.
-# Status 0: that is done; 1: something failed; 2: the words can't be.
+#
+# It installs into DESTDIR/PREFIX, for use from PREFIX, which is /usr/local by default; DESTDIR is empty by default. An earlier
+# installation there is removed first. PREFIX/share/nizwarf/installed lists the installed files. With --uninstall these are
+# removed, and nothing is installed.
+# Exit status 0: it was done; 1: it failed; 2: an argument is invalid.
 set -eu
 export LC_ALL=C
 umask 022
@@ -26,7 +27,7 @@ prefix=${2:-/usr/local}
 case $#:$prefix:${destdir:-/} in
     [012]:/*:/*) ;;
     *)
-        echo "Usage: ./install.sh [--uninstall] [DESTDIR [PREFIX]], two full paths; DESTDIR may be ''." >&2
+        echo "Usage: ./install.sh [--uninstall] [DESTDIR [PREFIX]], two absolute paths, where DESTDIR may be ''" >&2
         exit 2
         ;;
 esac
@@ -47,11 +48,11 @@ remove() {
 if [ -e "$list" ]; then
     remove
 elif [ -n "$uninstall" ]; then
-    echo "Nothing is installed in $root: there is no $list." >&2
+    echo "install.sh: nothing is installed in '$root': '$list' does not exist" >&2
     exit 1
 fi
 if [ -n "$uninstall" ]; then
-    echo "Nizwarf is removed from $root."
+    echo "Nizwarf was removed from $root."
     exit 0
 fi
 
@@ -87,7 +88,7 @@ for file in share/qemu/vhost-user/60-nizwarf-share.json lib/systemd/system/nizwa
     awk -v prefix="${prefix%/}" '{ sub("/usr/local", prefix) } { print }' "$file" > "$root/$file"
 done
 
-echo "Nizwarf is in $root."
+echo "Nizwarf was installed in $root."
 if [ -z "$destdir" ]; then
-    echo "\`ldconfig\`, as root, tells the linker of the shared library there."
+    echo "Run \`ldconfig\` as root, so that the linker finds the shared library."
 fi

@@ -1,30 +1,30 @@
 #!/usr/bin/env bash
-# Packs the daemon of tools/virtiofsd.sh for Debian as virtiofsd-nizwarf, beside the distribution's virtiofsd: the same
-# words and the same description for managers of virtual machines, by another name.
+# Packs the daemon of tools/virtiofsd.sh for Debian as virtiofsd-nizwarf, which can be installed beside the distribution's
+# virtiofsd: it has the same options and the same description for managers of virtual machines, with another name.
 #
-# Usage: tools/virtiofsd.sh --package [--unproved] [--check] [FOLDER]
-# It leaves virtiofsd-nizwarf_VERSION_ARCH.deb in the folder of tools/virtiofsd.sh. The program is
-# /usr/sbin/virtiofsd-nizwarf: libvirt's profile of AppArmor lets libvirtd start what is there. Its description has a
-# higher number than virtiofsd's, so that a machine has it once its <binary path=> names it, or if there is no other.
+# Usage: tools/virtiofsd.sh --package [--unproved] [--check] [DIRECTORY]
+# It writes virtiofsd-nizwarf_VERSION_ARCH.deb to the directory of tools/virtiofsd.sh. The program is
+# /usr/sbin/virtiofsd-nizwarf, because libvirt's AppArmor profile allows libvirtd to start programs there. Its description has
+# a higher number than virtiofsd's, so that a machine uses it if its <binary path=> names it, or if there is no other.
 #
-# The library is the proved one: it is proved first if it isn't, in minutes, or in half an hour on four processors if
-# no crate was proved before. The file build-info in share/doc says from which commit and by which tools all is made.
+# The library is the proved one. If it is not proved, it is proved first, which takes minutes, or half an hour on four
+# processors if no crate was proved before. The file build-info in share/doc lists the commit and the tools.
 #
-#   --unproved  builds a library that isn't proved without a proof; the version says so then
-#   --check     builds and packs all twice, in another folder, and compares; lintian must find no error
+#   --unproved  build a library that is not proved without a proof; the version then says so
+#   --check     build and pack all twice, in another directory, and compare; lintian must find no error
 #
-# It wants what tools/virtiofsd.sh does, and binutils.
-# Status 0: it is made, and as it should be; 1: not so; 2: it could not start.
+# It requires the programs that tools/virtiofsd.sh requires, and binutils.
+# Exit status 0: it is made, and with --check correct; 1: it failed; 2: it could not start.
 set -euo pipefail
 . "$(dirname "$0")/../tools/lib/usage.sh"
 . "$(dirname "$0")/../tools/lib/transport.sh"
 . "$(dirname "$0")/../tools/lib/front.sh"
 . "$(dirname "$0")/../tools/lib/debs.sh"
 
-# Tells how it is used, and stops.
+# Prints an error and the usage, and exits.
 refuse() {
-    echo "$1" >&2
-    echo "Usage: tools/virtiofsd.sh --package [--unproved] [--check] [FOLDER]" >&2
+    echo "virtiofsd.sh: $1" >&2
+    echo "Usage: tools/virtiofsd.sh --package [--unproved] [--check] [DIRECTORY]" >&2
     exit 2
 }
 
@@ -37,9 +37,9 @@ for word in "$@"; do
     esac
 done
 for command in objdump readelf strip; do
-    need "$command" "Install it: apt-get install binutils."
+    need "$command" "To install it: apt-get install binutils"
 done
-need dpkg-deb "It makes the package."
+need dpkg-deb "It is required to make the package."
 make_folder
 work=$(mktemp -d)
 trap 'rm -rf "$work"' EXIT
@@ -65,7 +65,7 @@ pack() {
     # The number before a description's name says which one comes first: virtiofsd's is 50.
     sed "s,\"/usr/libexec/virtiofsd\",\"$program\"," "$1/tree/50-virtiofsd.json" \
         > "$root/usr/share/qemu/vhost-user/60-$name.json"
-    grep -q "\"$program\"" "$root/usr/share/qemu/vhost-user/60-$name.json" || wrong "virtiofsd's description names no program."
+    grep -q "\"$program\"" "$root/usr/share/qemu/vhost-user/60-$name.json" || wrong "virtiofsd's description does not name its program"
     install -m 644 "$here/bindings/virtiofsd/README.md" "$doc/"
     install -Dm 644 "$page" "$root/usr/share/man/man8/$name.8"
     list_crates "$1" > "$work/crates"
@@ -85,14 +85,14 @@ set_source "$name" "1.13.2+nizwarf$release"
 part "the package"
 pack "$folder" "$work/out"
 if [ -n "$check" ]; then
-    part "the same again in another folder, to be compared"
+    part "the same again in another directory, for comparison"
     mkdir "$work/again"
     # (downloaded once)
     ln -s "$folder/crates" "$work/again/crates"
     "$here/tools/virtiofsd.sh" "$work/again" > /dev/null
     pack "$work/again" "$work/compared"
-    diff -r "$work/out" "$work/compared" || wrong "what was made twice differs."
-    echo "Made twice, and the same."
+    diff -r "$work/out" "$work/compared" || wrong "two builds differ"
+    echo "Two builds are identical."
     part "lintian"
     hold_lintian "$work"/out/*.deb
 fi

@@ -30,8 +30,8 @@ def test_help_begins_with_the_usage(wrapper, option):
 
 
 def test_an_unknown_option_is_named(wrapper):
-    assert call(wrapper, "--verison") == (2, "", f"{wrapper.name}: unknown option: --verison\n")
+    assert call(wrapper, "--verison") == (2, "", f"{wrapper.name}: unrecognized option '--verison'\n")
 
 
 def test_a_file_that_is_not_there_is_named(wrapper):
-    assert call(wrapper, "/none") == (2, "", f"{wrapper.name}: /none: cannot be read\n")
+    assert call(wrapper, "/none") == (2, "", f"{wrapper.name}: cannot read '/none'\n")
