@@ -23,7 +23,7 @@ for word in "$@"; do
         *) echo "Usage: bindings/check.sh [--msrv] [--fuser]" >&2 && exit 2 ;;
     esac
 done
-need cc "Install a C compiler: apt-get install gcc libc6-dev."
+need cc "To install it: apt-get install gcc libc6-dev"
 folder=$(mktemp -d)
 trap clean_up EXIT
 built=$here/out/bindings

@@ -1,25 +1,25 @@
 #!/usr/bin/env bash
-# Looks, in two minutes, without root and without a proof, whether what is here holds together. CONTRIBUTING.md has the
-# commands that judge the rest of a change.
+# Checks in two minutes, without root and without a proof, that the sources are consistent. CONTRIBUTING.md has the commands
+# that test a change further.
 #
 # Usage: tools/check.sh [--only PART]..
 #        tools/check.sh --missing
 #
-#   documents  the pages against the sources
-#   edits      that each edit of tests/edits can still be tried
-#   numbers    the numbers and structs of the bindings, by the header for C
-#   shell      scripts, by shellcheck
+#   documents  the pages agree with the sources
+#   edits      each edit of tests/edits still applies
+#   numbers    the numbers and structs of the bindings are those of the header for C
+#   shell      shellcheck accepts the scripts
 #   rattle     the format of Rattle's files, by `rt fmt` on a copy
-#   rust       the format of Rust's, by rustfmt
-#   python     Python's files, by pyflakes
-#   c          each file in C compiles with no warning, and the examples of manual pages
-#   format     the format of C's, by clang-format
-#   codec       the libraries for C, built without a proof, and the tests in C over them
+#   rust       the format of Rust's files, by rustfmt
+#   python     pyflakes accepts Python's files
+#   c          each C file compiles without a warning, and so do the examples of manual pages
+#   format     the format of C's files, by clang-format
+#   codec      the tests in C of the libraries for C, which are built without a proof
 #   crate      the tests of bindings/rust over that library
 #
-# A part that fails does not stop those after it. One whose programs are not installed is skipped, and which
-# packages have them is told: --missing prints these alone. Nothing is installed.
-# Status 0: all passed; 1: a part failed; 2: it could not start; 3: none failed, but one was skipped.
+# A part that fails does not stop the parts after it. A part whose programs are not installed is skipped, and the packages of
+# these programs are printed; --missing prints only the packages. Nothing is installed.
+# Exit status 0: all passed; 1: a part failed; 2: it could not start; 3: no part failed, but one was skipped.
 set -euo pipefail
 . "$(dirname "$0")/lib/usage.sh"
 . "$(dirname "$0")/lib/transport.sh"
@@ -59,7 +59,7 @@ while [ $# -gt 0 ]; do
     case $1 in
         --only)
             if [ -z "${wanted[${2:-none}]-}" ]; then
-                echo "There is no part ${2:-without a name}: ${parts[*]}." >&2
+                echo "check.sh: --only must be one of ${parts[*]}, not '${2-}'" >&2
                 exit 2
             fi
             chosen+=("$2")
@@ -148,7 +148,7 @@ for part in "${parts[@]}"; do
     # (paste ends even an empty line, so that read has one)
     read -ra missing < <(missing_of "$part" | paste -sd ' ')
     if [ ${#missing[@]} != 0 ]; then
-        echo "$number of ${#parts[@]}: $part, skipped for want of ${missing[*]}"
+        echo "$number of ${#parts[@]}: $part is skipped, because these are missing: ${missing[*]}"
         skipped+=("$part")
         continue
     fi
@@ -165,9 +165,9 @@ for part in "${parts[@]}"; do
 done
 wait
 echo "Seconds: $(printf '%s, ' "${times[@]}" | sed 's/ s, /, /g; s/, $//'); together $SECONDS."
-command -v rt > /dev/null || echo "The folder bin of the Rattle toolchain is not on the PATH."
+command -v rt > /dev/null || echo "The directory bin of the Rattle toolchain is not in PATH."
 if [ ${#skipped[@]} != 0 ]; then
-    echo "Skipped: ${skipped[*]}. apt-get install $(packages_for "${skipped[@]}" | paste -sd ' ')"
+    echo "Skipped: ${skipped[*]}. To install what is missing: apt-get install $(packages_for "${skipped[@]}" | paste -sd ' ')"
 fi
 [ ${#failed[@]} = 0 ] || { echo "FAILED: ${failed[*]}" && exit 1; }
 [ ${#skipped[@]} = 0 ] || exit 3

@@ -1,11 +1,11 @@
 #!/usr/bin/env bash
-# Runs the program vfs_demo on its stored session, and shows each request and its answer: the line that the
-# program reads or writes, and below it what the message says, by the program vfs_decode.
+# Runs the program vfs_demo on its stored session, and shows each request and its reply: the line that the program reads or
+# writes, and below it the fields of the message, by the program vfs_decode.
 #
 # Usage: tools/demo.sh
-# It runs the proved programs if they are built and no source is newer, and otherwise builds them without
-# a proof, which takes a minute, and keeps them: later runs take a second. Status 0: each answer is the
-# stored one.
+# It runs the proved programs if they are built and no source is newer. Otherwise it builds them without a proof, which takes
+# a minute, and keeps them, so that later runs take a second.
+# Exit status 0: each reply is the stored one; 1: a reply differs; 2: it could not start.
 set -euo pipefail
 . "$(dirname "$0")/lib/usage.sh"
 take_none "$@"
@@ -23,9 +23,9 @@ show "$crate/stdin" "$answers"
 echo
 
 if [ "$status" = 0 ] && cmp -s "$answers" "$crate/stdout"; then
-    echo "Each answer is the stored one."
+    echo "Each reply is the stored one."
 else
-    echo "The status is $status, or the answers differ from the stored ones:" >&2
+    echo "demo.sh: the status is $status, or replies differ from the stored ones:" >&2
     diff "$crate/stdout" "$answers" >&2 || true
     exit 1
 fi

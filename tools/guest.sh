@@ -1,21 +1,22 @@
 #!/usr/bin/env bash
-# Boots a virtual machine that mounts the file system in memory over virtio-fs, does there what a person does, also
-# after a reboot, and powers off: tests/programs/guest_init.sh. Its console is shown, and
-# tests/programs/test_guest.py judges that.
+# Boots a virtual machine that mounts the file system in memory over virtio-fs, uses it as a person would, also after a
+# reboot, and powers off: tests/programs/guest_init.sh. Its console is printed, and tests/programs/test_guest.py tests it.
 #
 # Usage: tools/guest.sh [--share | --virtiofsd] [KERNEL-PACKAGE[/SUITE]]
-# With --share it is a folder of the host that the guest mounts, which programs/share/share.c serves as tools/share.sh
-# does, with its files written later by the guest; what is in use is not looked at then. With --virtiofsd it is
-# the daemon of tools/virtiofsd.sh that serves it, in its sandbox, and root is wanted.
-# The kernel is Debian's package linux-image-cloud-amd64, or that of the argument; of another suite of
-# Debian than the machine's where one is named, as linux-image-cloud-amd64/trixie. Kernel and busybox are
-# downloaded by apt-get, and unpacked into the folder `guest` of `out`, where a second run finds them. The
-# guest has one processor that QEMU computes, so no /dev/kvm is wanted; its session is tests/programs/session.sh.
 #
-# It wants QEMU (apt-get install qemu-system-x86), xz, a C compiler and the Rattle toolchain, and no root.
-# It links the proved library where that is built and no source is newer; otherwise tools/lib/unproved.sh builds
-# it without a proof, which takes a minute. The transport is programs/vhost/vhost.c, which nothing is proved of.
-# Status 0: the guest powered off; 1: not so; 2: it could not start.
+#   --share      the guest mounts a directory of the host instead, which nizwarf-share serves, with the guest's writeback
+#                cache; the numbers of df are not tested then
+#   --virtiofsd  the same, served by the daemon of tools/virtiofsd.sh in its sandbox, which requires root
+#
+# The kernel is Debian's package linux-image-cloud-amd64, or KERNEL-PACKAGE, if SUITE is given of that suite of Debian, for
+# example linux-image-cloud-amd64/trixie. The kernel and busybox are downloaded by apt-get and unpacked into out/guest, where
+# the next run finds them. QEMU emulates the guest's one processor, so that /dev/kvm is not required. The guest's session is
+# tests/programs/session.sh.
+#
+# It requires QEMU (apt-get install qemu-system-x86), xz, a C compiler and the Rattle toolchain, but not root. It links the
+# proved library if that is built and no source is newer; otherwise tools/lib/unproved.sh builds it without a proof, which
+# takes a minute. The transport, programs/vhost/vhost.c, is not proved.
+# Exit status 0: the guest powered off; 1: it did not; 2: it could not start.
 set -euo pipefail
 . "$(dirname "$0")/lib/usage.sh"
 . "$(dirname "$0")/lib/transport.sh"
@@ -32,7 +33,7 @@ if [ $# -gt 1 ] || [[ ${1:-} == -* ]]; then
     exit 2
 fi
 need_x86_64
-need qemu-system-x86_64 "Install it: apt-get install qemu-system-x86."
+need qemu-system-x86_64 "To install it: apt-get install qemu-system-x86"
 if [ "$by" = --virtiofsd ]; then
     transport=$("$here/tools/virtiofsd.sh")
 elif [ -n "$shared" ]; then
@@ -95,4 +96,4 @@ kill -TERM "$transport_id" 2> /dev/null || true
 wait "$transport_id" || status=$?
 started=()
 echo "$((SECONDS - began)) s"
-[ "$status" = 0 ] || { echo "FAILED: QEMU or the transport ended with $status." >&2 && exit 1; }
+[ "$status" = 0 ] || { echo "guest.sh: QEMU or the transport exited with status $status" >&2 && exit 1; }

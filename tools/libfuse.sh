@@ -1,28 +1,28 @@
 #!/usr/bin/env bash
-# Builds libfuse's library with the protocol layer here in place of its own: programs that link libfuse3 have it without
-# a change.
+# Builds libfuse's library with this protocol layer in place of its own: programs that link libfuse3 get it without a change.
 #
-# Usage: tools/libfuse.sh [--unmodified [--io-uring]] [--all] [--sanitize WHAT] [--suite SUITE] [FOLDER]
-#        tools/libfuse.sh --check [OPTION OF PYTEST]..
-# It leaves libfuse3.so.3 in the folder `lib` of FOLDER, which is out/libfuse if none is given, and prints where; by
-# LD_LIBRARY_PATH a program finds it there. It is built again if a source is newer, and never installed.
+# Usage: tools/libfuse.sh [--unmodified [--io-uring]] [--all] [--sanitize LIST] [--suite SUITE] [DIRECTORY]
+#        tools/libfuse.sh --check [PYTEST-OPTION]..
 #
-# libfuse's sources are a package of Debian, fuse3 of the machine's own suite, or of another one, as sid: apt-get
-# downloads them by lists of its own, with Debian's changes. bindings/libfuse/make.py leaves what is replaced out of
-# lib/fuse_lowlevel.c, and puts the files beside it there; lib/meson.build links the library of the codec. No other
-# file changes. Known are the versions 3.14.0 and 3.18.3.
+# It builds libfuse3.so.3 in DIRECTORY/lib, where DIRECTORY is out/libfuse by default, and prints that path. A program uses
+# the library if LD_LIBRARY_PATH has the path. The library is built again if a source is newer, and it is never installed.
 #
-# With --unmodified it builds libfuse as it is, into FOLDER/unmodified. With --all it builds libfuse's examples and
-# tests too. With --sanitize both are built with sanitizers, as address,undefined or thread, into a folder of their own.
-# With --io-uring libfuse as it is also serves requests over io_uring, which libfuse can since 3.17 and Debian's own package
-# is built without: a mount then takes `-o io_uring`. It is built into a folder of its own, with liburing and libnuma.
+#   --unmodified      build libfuse without a change, in DIRECTORY/unmodified
+#   --io-uring        let the unmodified libfuse serve requests over io_uring, which libfuse supports since 3.17 and
+#                     Debian's package does not; a mount then accepts `-o io_uring`; it requires liburing and libnuma
+#   --all             build libfuse's examples and tests too
+#   --sanitize LIST   build with sanitizers, such as address,undefined or thread, in a directory of their own
+#   --suite SUITE     use libfuse's sources of this suite of Debian, such as sid, instead of the machine's
+#   --check           compare the two libraries by tests/compare/test_libfuse.py
 #
-# With --check tests/compare/test_libfuse.py compares the two libraries.
+# libfuse's sources are Debian's package fuse3, which apt-get downloads with package lists of its own. Debian's changes are
+# applied. bindings/libfuse/make.py removes the replaced functions from lib/fuse_lowlevel.c and copies its files next to it;
+# lib/meson.build links the codec's library. No other file changes. The supported versions are 3.14.0 and 3.18.3.
 #
-# It wants apt-get, a C compiler, meson, ninja, pkg-config, patch and xz, of which it names the packages that are missing,
-# and the Rattle toolchain. It links the proved library if that is built and no source is newer; otherwise
-# tools/lib/unproved.sh builds it without a proof, which takes a minute more.
-# Status 0: it was built, and with --check all came to what it must; 1: not so; 2: it could not start.
+# It requires apt-get, a C compiler, meson, ninja, pkg-config, patch, xz and the Rattle toolchain, and prints which packages
+# are missing. It links the proved library if that is built and no source is newer; otherwise tools/lib/unproved.sh builds it
+# without a proof, which takes a minute more.
+# Exit status 0: it was built, and with --check all tests passed; 1: it failed; 2: it could not start.
 set -euo pipefail
 . "$(dirname "$0")/lib/usage.sh"
 . "$(dirname "$0")/lib/transport.sh"
@@ -30,12 +30,12 @@ set -euo pipefail
 . "$(dirname "$0")/lib/libfuse.sh"
 
 usage() {
-    echo "Usage: tools/libfuse.sh [--check | --unmodified [--io-uring]] [--all] [--sanitize WHAT] [--suite SUITE] [FOLDER]" >&2
+    echo "Usage: tools/libfuse.sh [--check [PYTEST-OPTION].. | --unmodified [--io-uring]] [--all] [--sanitize LIST] [--suite SUITE] [DIRECTORY]" >&2
     exit 2
 }
 
 if [ "${1:-}" = --check ]; then
-    need pytest-3 "Install it: apt-get install python3-pytest."
+    need pytest-3 "To install it: apt-get install python3-pytest"
     exec pytest-3 "$here/tests/compare/test_libfuse.py" -k "not tests_of_programs" "${@:2}"
 fi
 suite=$(sed -n 's/^VERSION_CODENAME=//p' /etc/os-release)
@@ -63,7 +63,7 @@ need_packages "${to_build[@]}"
 if [ "$ring" = true ]; then
     for it in liburing numa; do
         if ! pkg-config --exists "$it"; then
-            echo "Missing: $it. Install both: apt-get install liburing-dev libnuma-dev." >&2
+            echo "libfuse.sh: $it is missing. To install both libraries: apt-get install liburing-dev libnuma-dev" >&2
             exit 2
         fi
     done
@@ -94,7 +94,7 @@ source=$folder/source-$suite
 if [ ! -e "$source" ]; then
     echo "Downloading the sources of libfuse .." >&2
     quietly "$folder/said-$suite" fetch || {
-        echo "Debian's package fuse3 of $suite can't be had by apt-get here." >&2
+        echo "libfuse.sh: apt-get cannot download Debian's package fuse3 of $suite" >&2
         exit 2
     }
 fi
@@ -140,7 +140,7 @@ replace() {
         s#link_depends: 'fuse_versionscript'#link_depends: ['fuse_versionscript', '${archive##*/}', 'libnizwarf_c.a']#" \
         "$source/lib/meson.build" > "$work/meson.build"
     if ! grep -q libnizwarf_codec "$work/meson.build"; then
-        echo "libfuse's lib/meson.build links in a way that isn't known here." >&2
+        echo "libfuse.sh: unsupported lib/meson.build: it has no known link arguments" >&2
         return 1
     fi
     renew "$work/meson.build" "$work/tree/lib/meson.build"

@@ -1,21 +1,21 @@
 #!/usr/bin/env bash
-# Makes a library for transports in C over a file system of your own: a copy of crates/nizwarf_tree under
-# another name, with the same functions and the same header. docs/USE.md says what to change
-# in it then.
+# Creates a library for transports in C over your own file system: a copy of crates/nizwarf_tree with another name, and with
+# the same functions and header. docs/USE.md says which files you must change then.
 #
 # Usage: tools/new-library.sh NAME [TREE]
-# NAME and TREE are lowercase letters, digits and _. It writes crates/NAME, a line of crates.txt, and
-# tools/lib/unproved/NAME, by which `tools/mount.sh --library NAME FOLDER` builds and mounts it without a proof.
 #
-# With TREE it is over the read-only tree of the crate TREE, and nothing is to be changed in it. If there is no
-# crates/TREE yet, it is made too, of the three files of crates/example_tree, for you to change.
+# NAME and TREE consist of lowercase letters, digits and _. It creates crates/NAME, a line of crates.txt, and
+# tools/lib/unproved/NAME, with which `tools/mount.sh --library NAME DIRECTORY` builds and mounts the library without a proof.
+#
+# With TREE, the library serves the read-only tree of the crate TREE, and nothing in it must be changed. If crates/TREE does
+# not exist, it is created too, from the three files of crates/example_tree, which you must change.
 set -euo pipefail
 . "$(dirname "$0")/lib/usage.sh"
 cd "$(dirname "$0")/.."
 
 name=${1:-} tree=${2:-}
 usage() {
-    echo "Usage: tools/new-library.sh NAME [TREE], where there is no crates/NAME yet." >&2
+    echo "Usage: tools/new-library.sh NAME [TREE], where crates/NAME must not exist" >&2
     exit 2
 }
 [[ $# -ge 1 && $# -le 2 && $name =~ ^[a-z][a-z0-9_]*$ && $name != "$tree" ]] || usage
@@ -39,7 +39,7 @@ new_tree() {
     sed -i '/^pub mod Requests$/d' "crates/$tree/specs/Lib.antt"
     name_copy example_tree "$tree"
     sed -i "/^$tree\b/s/ vfs_wire_more\b//" crates.txt
-    echo "The tree is in crates/$tree/src/lib.rt, and what is there in crates/$tree/specs/Docs.antt."
+    echo "The tree is in crates/$tree/src/lib.rt, and its contents in crates/$tree/specs/Docs.antt."
 }
 
 # The words of a tree: its type, that of its tables, and the file that has these.
@@ -49,7 +49,7 @@ words_of_tree() {
     module=$(basename "$(grep -l "^abbrev pub ${tables:-/} : Tables$" "crates/$tree"/specs/*.antt)" .antt)
     if [ -z "$type" ] || [ -z "$tables" ] || [ -z "$module" ] \
         || ! grep -q "^pub struct $type;$" "crates/$tree/src/lib.rt"; then
-        echo "crates/$tree/src/lib.rt has no tree of a struct without fields, as crates/example_tree has." >&2
+        echo "new-library.sh: crates/$tree/src/lib.rt must implement ReadTree for a struct without fields, as crates/example_tree does" >&2
         exit 2
     fi
 }
@@ -89,9 +89,9 @@ new_library
 if [ -n "$tree" ]; then
     over_tree
     if command -v rt > /dev/null; then (cd "crates/$name" && rt fmt > /dev/null); fi
-    echo "Mount it:"
+    echo "To mount it:"
 else
-    echo "Now change crates/$name/src/files.rt, what proves it in proofs/files, specs/Files.antt, and in crates.txt, on the"
-    echo "line of $name, fs_tree to the crate of your file system. Then mount it:"
+    echo "Change crates/$name/src/files.rt, its proofs in proofs/files, and specs/Files.antt, and replace fs_tree on the"
+    echo "line of $name in crates.txt by the crate of your file system. To mount it:"
 fi
-echo "    tools/mount.sh --library $name FOLDER"
+echo "    tools/mount.sh --library $name DIRECTORY"

@@ -1,30 +1,28 @@
 #!/usr/bin/env bash
-# Packs the libraries for C as one, shared and static, with headers, pages and programs: as packages of Debian,
-# and as a tarball that installs into any prefix.
+# Packs the libraries for C as one, shared and static, with headers, manual pages and programs: as packages of Debian, and as
+# a tarball that can be installed under any prefix.
 #
-# Usage: tools/package.sh [--unproved] [--check] [--no-demo] [--out FOLDER]
-# It leaves in out/packages, or in FOLDER:
+# Usage: tools/package.sh [--unproved] [--check] [--no-demo] [--out DIRECTORY]
+# It writes to out/packages, or to DIRECTORY:
 #
 #   libnizwarf1_VERSION_ARCH.deb       the shared library
-#   libnizwarf-dev_VERSION_ARCH.deb    headers, the static library, pages, examples
+#   libnizwarf-dev_VERSION_ARCH.deb    headers, the static library, manual pages, examples
 #   nizwarf_VERSION_ARCH.deb           the programs that programs/Makefile lists, nizwarf-demo and
 #                                      nizwarf-decode
-#   nizwarf-VERSION-linux-ARCH.tar.gz  all of it, with an install.sh
+#   nizwarf-VERSION-linux-ARCH.tar.gz  all of these, with an install.sh
 #
-# The libraries, and the demo's programs, are the proved ones: what is not proved yet, or has a newer source, is
-# proved first, in minutes, or in half an hour on four processors if no crate was proved before. The file build-info,
-# beside the changes in share/doc, says from which commit and by which tools all is made, and what is proved. The same
-# objects and compiler give the same bytes.
+# The libraries and the programs of the demo are the proved ones. If one is not proved, or has a newer source, it is proved
+# first, which takes minutes, or half an hour on four processors if no crate was proved before. The file build-info in
+# share/doc lists the commit, the tools, and which libraries are proved. The same objects and compiler give the same bytes.
 #
-#   --unproved  takes of these what is proved, and builds the rest without a proof, in a minute or two each; the
-#               version of all that is made then ends in ~unproved
-#   --check     makes all twice, and compares; lintian must find no error in the packages, and mandoc none in
-#               the pages
-#   --no-demo   leaves out nizwarf-demo and nizwarf-decode
+#   --unproved  use the libraries that are proved, and build the others without a proof, in a minute or two each; the
+#               version then ends in ~unproved
+#   --check     make all twice and compare; lintian must find no error in the packages, and mandoc none in the pages
+#   --no-demo   leave out nizwarf-demo and nizwarf-decode
 #
-# It wants a C compiler with binutils, Python, libseccomp-dev, and the Rattle toolchain. Without dpkg-deb it makes the
-# tarball alone, and says so.
-# Status 0: all is made, and as it should be; 1: not so; 2: it could not start.
+# It requires a C compiler with binutils, Python, libseccomp-dev and the Rattle toolchain. Without dpkg-deb it makes only the
+# tarball, and prints so.
+# Exit status 0: all is made, and with --check correct; 1: it failed; 2: it could not start.
 set -euo pipefail
 . "$(dirname "$0")/lib/usage.sh"
 . "$(dirname "$0")/lib/transport.sh"
@@ -43,12 +41,12 @@ while [ $# -gt 0 ]; do
         --unproved) unproved=yes ;;
         --no-demo) demo= ;;
         --out)
-            [ $# -ge 2 ] || { echo "--out wants a folder." >&2 && exit 2; }
+            [ $# -ge 2 ] || { echo "package.sh: option '--out' requires an argument" >&2 && exit 2; }
             out=$(realpath -m "$2")
             shift
             ;;
         *)
-            echo "Usage: tools/package.sh [--unproved] [--check] [--no-demo] [--out FOLDER]" >&2
+            echo "Usage: tools/package.sh [--unproved] [--check] [--no-demo] [--out DIRECTORY]" >&2
             exit 2
             ;;
     esac
@@ -57,12 +55,12 @@ done
 out=${out:-$here/out/packages}
 need_x86_64
 for command in ld nm objcopy objdump readelf strip; do
-    need "$command" "Install it: apt-get install binutils."
+    need "$command" "To install it: apt-get install binutils"
 done
-need cc "Install a C compiler: apt-get install gcc libc6-dev."
-need make "Install it: apt-get install make."
-need gzip "Install it: apt-get install gzip."
-need python3 "Install it: apt-get install python3."
+need cc "To install it: apt-get install gcc libc6-dev"
+need make "To install it: apt-get install make"
+need gzip "To install it: apt-get install gzip"
+need python3 "To install it: apt-get install python3"
 
 # How C is compiled, in libraries and programs.
 hardened=(-O2 -D_FORTIFY_SOURCE=2 -fstack-protector-strong -fstack-clash-protection -fcf-protection
@@ -92,7 +90,7 @@ find_parts() {
     [ -z "$demo" ] || build_programs vfs_demo vfs_decode
     set_source nizwarf "$release"
     note=", proved"
-    [ -n "$proved" ] || note=" (NOT PROVED: this build stands on no proof)"
+    [ -n "$proved" ] || note=" (NOT PROVED: this build has no proof)"
     tell_build "${parts[@]}" > "$work/build-info"
 }
 
@@ -133,11 +131,11 @@ make_libraries() {
 
     # (three words: address, kind, name)
     others=$(nm --defined-only --extern-only "$folder/libnizwarf.a" | awk 'NF == 3 && $3 !~ /^nizwarf_/ { print $3 }' | paste -sd ' ')
-    [ -z "$others" ] || wrong "names of libnizwarf.a do not begin with nizwarf_: $others"
+    [ -z "$others" ] || wrong "symbols of libnizwarf.a do not begin with nizwarf_: $others"
     needed=$(needed_by "$folder/$soname" | paste -sd ' ')
-    [ "$needed" = libc.so.6 ] || wrong "$soname needs $needed, and not the C library alone."
+    [ "$needed" = libc.so.6 ] || wrong "$soname must need only the C library, but needs $needed"
     [ "$(declared)" = "$(mapped | sed 's/@.*//' | sort)" ] \
-        || wrong "packaging/nizwarf.map does not have the functions that the headers declare."
+        || wrong "packaging/nizwarf.map differs from the functions that the headers declare"
     others=$(exported "$folder/$soname" | comm -3 - <(mapped | sort) | tr -d '\t' | paste -sd ' ')
     [ -z "$others" ] || wrong "$soname and packaging/nizwarf.map differ in: $others"
 }
@@ -199,7 +197,7 @@ put_demo() {
     for name in nizwarf-demo nizwarf-decode; do
         sed "s/@VERSION@/$release/" "$packaging/$name" > "$1/bin/$name"
         chmod 755 "$1/bin/$name"
-        [ -z "$(misnamed "$1/bin" "$name")" ] || wrong "$name does not say its own name and the version."
+        [ -z "$(misnamed "$1/bin" "$name")" ] || wrong "$name does not print its name and version"
     done
     for name in vfs_demo vfs_decode; do
         install -m 755 "$(path_of "$name")" "$1/libexec/nizwarf/"
@@ -258,7 +256,7 @@ make_tree() {
     sed -e "s/@NOTE@/$note/" -e "s/@VERSION@/$release/" "$packaging/nizwarf.pc.in" > "$tree/lib/pkgconfig/nizwarf.pc"
     put_programs "$tree/bin" "$tree/lib/libnizwarf.a"
     missing=$(for_programs misnamed "$tree/bin")
-    [ -z "$missing" ] || wrong "programs that do not say their own names and the version: $missing"
+    [ -z "$missing" ] || wrong "programs do not print their name and version: $missing"
     put_demo "$tree"
     put_examples "$tree/share/doc/nizwarf/examples"
     "$packaging/man.py" "$work/man"
@@ -269,12 +267,12 @@ make_tree() {
     missing=$(functions | while read -r name; do
         { [ -e "$tree/share/man/man3/$name.3" ] && grep -qx "\.Ss $name" "$work"/man/*.3; } || echo "$name"
     done)
-    [ -z "$missing" ] || wrong "functions of the headers without a page: $missing"
-    hold_pages "$work/man" || wrong "pages of functions."
+    [ -z "$missing" ] || wrong "functions of the headers have no manual page: $missing"
+    hold_pages "$work/man" || wrong "manual pages of functions"
     missing=$(for_programs page_missing "$tree/share/man")
-    [ -z "$missing" ] || wrong "programs without a page: $missing"
+    [ -z "$missing" ] || wrong "programs have no manual page: $missing"
     missing=$(for_programs unexplained "$tree/bin")
-    [ -z "$missing" ] || wrong "words that --help lists, and no page: $missing"
+    [ -z "$missing" ] || wrong "options of --help are missing in the manual pages: $missing"
     install -m 644 "$here"/{CHANGELOG.md,NOTICE.md,LICENSE-*} "$work/build-info" "$tree/share/doc/nizwarf/"
     install -Dm 644 "$packaging/60-nizwarf-share.json" -t "$tree/share/qemu/vhost-user"
     install -m 755 "$packaging/install.sh" "$tree/"
@@ -350,23 +348,23 @@ find_parts
 debs=yes
 if ! command -v dpkg-deb > /dev/null; then
     debs=
-    echo "Missing: the command \`dpkg-deb\`, so the tarball alone is made." >&2
+    echo "package.sh: dpkg-deb is not installed: making only the tarball" >&2
 fi
 part "programs, pages and packages"
 tell_of_filter
 make_all "$work/out"
 if [ -n "$check" ]; then
-    part "the same again, to be compared"
+    part "the same again, for comparison"
     make_all "$work/again"
-    diff -r "$work/out" "$work/again" || wrong "what was made twice differs."
-    echo "Made twice, and the same."
+    diff -r "$work/out" "$work/again" || wrong "two builds differ"
+    echo "Two builds are identical."
     part "lintian and mandoc"
     [ -z "$debs" ] || hold_lintian "$work"/out/*.deb
     if command -v mandoc > /dev/null; then
-        mandoc -T lint -W warning "$work"/man/*.[1-8] || wrong "mandoc."
-        echo "mandoc finds nothing in the pages."
+        mandoc -T lint -W warning "$work"/man/*.[1-8] || wrong "mandoc finds errors in the manual pages"
+        echo "mandoc finds no error in the manual pages."
     else
-        echo "Missing: the command \`mandoc\`: apt-get install mandoc." >&2
+        echo "package.sh: mandoc is not installed. To install it: apt-get install mandoc" >&2
     fi
 fi
 mkdir -p "$out"

@@ -1,15 +1,18 @@
 #!/usr/bin/env bash
-# Runs lines of requests through the program vfs_demo.
+# Replays requests with the program vfs_demo.
 #
 # Usage: tools/replay.sh [--bytes] LINES [EXPECTED]
-# Prints the lines of the file LINES and their answers, and below each what the message says, by the
-# program vfs_decode; with --bytes the answers alone, as vfs_demo writes them; with EXPECTED, a file of
-# answers, only the first that differs, with its request. A bad line ends a session with status 2, here
-# too. The first line may be `limit N`, which has no answer.
 #
-# It runs the proved programs if they are built and no source is newer, and otherwise builds them without
-# a proof, which takes a minute, and keeps them: later runs take a second. Status 0: each line was
-# answered, as EXPECTED says if it is given; 1: an answer differs.
+# LINES is a file with a request in each line. It prints the lines and their replies, and below each the fields of the message,
+# by the program vfs_decode. The first line may be `limit N`, which has no reply. An invalid line ends the session with status 2.
+#
+#   --bytes   print only the replies, as vfs_demo writes them
+#   EXPECTED  a file of replies: print only the first reply that differs, with its request
+#
+# It runs the proved programs if they are built and no source is newer. Otherwise it builds them without a proof, which takes
+# a minute, and keeps them, so that later runs take a second.
+# Exit status 0: each line was replied to, as in EXPECTED if that is given; 1: a reply differs; 2: a line or an argument is
+# invalid.
 set -euo pipefail
 . "$(dirname "$0")/lib/usage.sh"
 . "$(dirname "$0")/lib/messages.sh"
@@ -25,7 +28,7 @@ if [ $# -lt 1 ] || [ $# -gt 2 ] || [[ $1 == -* ]]; then
 fi
 for file in "$@"; do
     if [ ! -r "$file" ]; then
-        echo "There is no file $file that can be read." >&2
+        echo "replay.sh: cannot read '$file'" >&2
         exit 2
     fi
 done
@@ -54,7 +57,7 @@ if [ -z "$expected" ]; then
 fi
 
 if cmp -s "$answers" "$expected"; then
-    echo "$(wc -l < "$expected") answers agree."
+    echo "$(wc -l < "$expected") replies are as expected."
     exit
 fi
 
@@ -70,9 +73,9 @@ if [[ $(head -n 1 "$lines") == 'limit '* && $(head -n 1 "$answers") != 'bad line
     asked=$((at + 1))
 fi
 {
-    echo "The first difference is at answer $at, to line $asked (status $status)."
+    echo "The first difference is in reply $at, to line $asked (status $status)."
     echo "request:  $(sed -n "${asked}p" "$lines")"
-    echo "answer:   $(sed -n "${at}p" "$answers")"
+    echo "reply:    $(sed -n "${at}p" "$answers")"
     echo "expected: $(sed -n "${at}p" "$expected")"
 } >&2
 exit 1

@@ -1,32 +1,32 @@
 #!/usr/bin/env bash
-# Shares a folder of the host: mounts it on another one over /dev/fuse, or serves it to a virtual machine over
-# vhost-user. The protocol is that of the library nizwarf_codec; the program is programs/share, of which nothing is
-# proved.
+# Shares a directory of the host: mounts it over /dev/fuse, or serves it to a virtual machine over vhost-user. The protocol is
+# that of the library nizwarf_codec; the program, programs/share, is not proved.
 #
-# Usage: tools/share.sh FOLDER MOUNTPOINT [WORDS]
-#        tools/share.sh FOLDER --socket-path=SOCKET [WORDS]
-#        tools/share.sh --words
+# Usage: tools/share.sh DIRECTORY MOUNTPOINT [OPTION]..
+#        tools/share.sh DIRECTORY --socket-path=SOCKET [OPTION]..
+#        tools/share.sh --options
 #        tools/share.sh --check
 #        tools/share.sh --load MINUTES
-# Words are those of virtiofsd, as --cache=always, --xattr, --thread-pool-size=4, and -o with the options of
-# a mount; --words lists them. `umount MOUNTPOINT` or Ctrl-C ends it. --check tests it by tests/share/check.sh, and
-# --load puts it under load for that many minutes by tests/share/load.sh.
 #
-# It wants root, for a mount /dev/fuse, a C compiler and the Rattle toolchain; libseccomp-dev if there is to be
-# a filter of system calls. It links the proved library if that is built and no source is newer; otherwise
-# tools/lib/unproved.sh builds it without a proof, which takes a minute.
-# Status 0: it was served and ended, and what was tested was right; 1: not so; 2: it could not start.
+# The options are those of nizwarf-share, such as --cache=always, --xattr or --thread-pool-size=4; --options lists them.
+# `umount MOUNTPOINT` or Ctrl-C ends it. --check tests it by tests/share/check.sh, and --load puts it under load for MINUTES by
+# tests/share/load.sh.
+#
+# It requires root, for a mount /dev/fuse, a C compiler and the Rattle toolchain, and libseccomp-dev for the filter of system
+# calls. It links the proved library if that is built and no source is newer; otherwise tools/lib/unproved.sh builds it without
+# a proof, which takes a minute.
+# Exit status 0: it was served and ended, or all tests passed; 1: it failed; 2: it could not start.
 set -euo pipefail
 . "$(dirname "$0")/lib/usage.sh"
 . "$(dirname "$0")/lib/transport.sh"
 
-# (words that stand alone; all others are the program's, which says what can't be)
+# (all other arguments are for the program, which checks them)
 case $#:${1:-} in
-    1:--words) set -- --help ;;
+    1:--options) set -- --help ;;
     1:--check) exec "$here/tests/share/check.sh" ;;
     2:--load) exec "$here/tests/share/load.sh" "$2" ;;
-    0:* | *:--check | *:--words | *:--load)
-        echo "Usage: tools/share.sh FOLDER MOUNTPOINT [WORDS], or tools/share.sh --words, --check or --load MINUTES" >&2
+    0:* | *:--check | *:--options | *:--load)
+        echo "Usage: tools/share.sh DIRECTORY MOUNTPOINT [OPTION].., or tools/share.sh --options, --check or --load MINUTES" >&2
         exit 2
         ;;
 esac

@@ -1,30 +1,28 @@
 #!/usr/bin/env bash
-# Builds the daemon virtiofsd 1.13.2 with the protocol layer here in place of its own.
+# Builds the daemon virtiofsd 1.13.2 with this protocol layer in place of its own.
 #
-# Usage: tools/virtiofsd.sh [--unmodified | --test] [FOLDER]
-#        tools/virtiofsd.sh --check [--seed N] [--requests N] [OPTION OF PYTEST]..
-#        tools/virtiofsd.sh --package [--unproved] [--check] [FOLDER]
-# It leaves the daemon as nizwarf-virtiofsd in the folder, which is out/virtiofsd if none is given. The daemon
-# takes virtiofsd's options, which its own --help lists. It is built again if a source is newer.
+# Usage: tools/virtiofsd.sh [--unmodified | --test] [DIRECTORY]
+#        tools/virtiofsd.sh --check [--seed N] [--requests N] [PYTEST-OPTION]..
+#        tools/virtiofsd.sh --package [--unproved] [--check] [DIRECTORY]
 #
-# The sources of virtiofsd and of the crates below it are packages of Debian 13, which apt-get downloads by
-# lists of its own and which are unpacked into the folder, and never installed: 50 MB. Of virtiofsd's sources
-# src/server.rs and src/descriptor_utils.rs are replaced by those of bindings/virtiofsd, which stand on the crate
-# of bindings/rust; no other changes. The first run takes a minute for the download, and three for one processor.
+# It builds the daemon as DIRECTORY/nizwarf-virtiofsd, where DIRECTORY is out/virtiofsd by default, and prints that path. The
+# daemon has virtiofsd's options, which its --help lists. It is built again if a source is newer.
 #
-# With --unmodified it builds virtiofsd as it is, and leaves it as virtiofsd in the folder:
-# `tools/measure/share-speed.sh --layer virtiofsd` measures the two side by side. Both are built by the same compiler and profile:
-# virtiofsd's own for a release, which optimises when it links, with one codegen unit.
+#   --unmodified  build virtiofsd without a change, as DIRECTORY/virtiofsd; both are built by the same compiler and profile,
+#                 virtiofsd's own for a release, and `tools/measure/share-speed.sh --layer virtiofsd` compares them
+#   --test        run virtiofsd's own tests, without those of the replaced files
+#   --check       run these tests too, and compare the daemon with Debian's, by tests/compare/test_servers.py, as root
+#   --package     make a package of Debian by packaging/virtiofsd.sh, which has a --help of its own
 #
-# With --test it runs the tests that virtiofsd's sources have, but those of the replaced files; with --check
-# tests/compare/test_servers.py does so too, and compares it with Debian's own program, as root. With --package
-# packaging/virtiofsd.sh makes a package of Debian of it, and has a --help of its own.
+# The sources of virtiofsd and of its crates are packages of Debian 13. apt-get downloads them with package lists of its own,
+# and they are unpacked into DIRECTORY and not installed: 50 MB. bindings/virtiofsd replaces src/server.rs and
+# src/descriptor_utils.rs by files that use the crate bindings/rust; nothing else changes. The first run takes a minute for the
+# download, and three minutes of one processor.
 #
-# It wants apt-get, a C compiler, cargo 1.85 or later, libcap-ng, libseccomp, and the Rattle toolchain. It
-# links the proved library if that is built and no source is newer; otherwise tools/lib/unproved.sh builds it
-# without a proof, which takes a minute more. CARGO_BUILD_JOBS is how many processors cargo uses.
-# Status 0: it was built, and its path printed, and with --check all came to what it must; 1: not so; 2: it could not
-# start.
+# It requires apt-get, a C compiler, cargo 1.85 or later, libcap-ng, libseccomp and the Rattle toolchain. It links the proved
+# library if that is built and no source is newer; otherwise tools/lib/unproved.sh builds it without a proof, which takes a
+# minute more. CARGO_BUILD_JOBS is the number of processors that cargo uses.
+# Exit status 0: it was built, and with --test or --check all tests passed; 1: it failed; 2: it could not start.
 set -euo pipefail
 . "$(dirname "$0")/lib/usage.sh"
 . "$(dirname "$0")/lib/transport.sh"
@@ -32,13 +30,13 @@ set -euo pipefail
 . "$(dirname "$0")/lib/front.sh"
 
 refuse() {
-    echo "$1" >&2
-    echo "Usage: tools/virtiofsd.sh [--check [--seed N] [--requests N] | --package [WORDS] | --unmodified | --test] [FOLDER]" >&2
+    echo "virtiofsd.sh: $1" >&2
+    echo "Usage: tools/virtiofsd.sh [--check [--seed N] [--requests N] | --package [OPTIONS] | --unmodified | --test] [DIRECTORY]" >&2
     exit 2
 }
 
 if [ "${1:-}" = --check ]; then
-    need pytest-3 "Install it: apt-get install python3-pytest."
+    need pytest-3 "To install it: apt-get install python3-pytest"
     exec pytest-3 "$here/tests/compare/test_servers.py" -k virtiofsd_over "${@:2}"
 elif [ "${1:-}" = --package ]; then
     exec "$here/packaging/virtiofsd.sh" "${@:2}"
@@ -53,13 +51,13 @@ for word in "$@"; do
 done
 need_x86_64
 for command in apt-get dpkg-deb; do
-    need "$command" "virtiofsd's sources are packages of Debian."
+    need "$command" "It is required because virtiofsd's sources are packages of Debian."
 done
 cargo_packages="cargo-web and rustc-web on Debian 12, cargo and rustc on Debian 13"
-need cargo "Install it by apt-get: $cargo_packages."
+need cargo "To install it: apt-get install $cargo_packages"
 version=$(cargo --version | sed -nE 's/^cargo 1\.([0-9]+)\..*/\1/p')
 if [ "${version:-0}" -lt 85 ]; then
-    echo "This is $(cargo --version), and 1.85 is wanted: $cargo_packages." >&2
+    echo "virtiofsd.sh: cargo 1.85 or later is required, but this is $(cargo --version): install $cargo_packages" >&2
     exit 2
 fi
 make_folder
@@ -71,7 +69,7 @@ link_library() {
     # (a line of ldconfig: a tab, libNAME.so.N, kinds in brackets, => and the path)
     it=$(PATH=$PATH:/sbin ldconfig -p | sed -nE "s,^\slib$name\.so\.[0-9]+ .*x86-64.* => (.*),\1,p" | sed -n 1p)
     if [ -z "$it" ]; then
-        echo "Missing: lib$name. Install it: apt-get install $package." >&2
+        echo "virtiofsd.sh: lib$name is missing. To install it: apt-get install $package" >&2
         exit 2
     fi
     ln -sfn "$it" "$folder/link/lib$name.so"
@@ -104,13 +102,13 @@ crates=$folder/crates
 if [ ! -e "$crates" ]; then
     echo "Downloading the sources of virtiofsd and of 200 crates .." >&2
     quietly "$folder/said" fetch || {
-        echo "Debian's package librust-virtiofsd-dev of trixie can't be had by apt-get here." >&2
+        echo "virtiofsd.sh: apt-get cannot download Debian's package librust-virtiofsd-dev of trixie" >&2
         exit 2
     }
 fi
 from=$crates/virtiofsd-1.13.2
 if [ ! -e "$from" ]; then
-    echo "$crates has no virtiofsd 1.13.2: Debian has another version now." >&2
+    echo "virtiofsd.sh: '$crates' does not contain virtiofsd 1.13.2: Debian has another version" >&2
     exit 2
 fi
 
@@ -168,7 +166,7 @@ if [ ! -e "$daemon" ] || [ -n "$(find "${needed[@]}" -newer "$daemon" -print -qu
     mv "$daemon.new" "$daemon"
 fi
 if [ -n "$tests" ]; then
-    echo "Building its tests, and running them .." >&2
+    echo "Building and running its tests .." >&2
     (run_cargo test) || build_failed
     sed -n "s/^test result: ok\. \([1-9].*\); [0-9]* measured.*/virtiofsd's own tests: \1/p" "$folder/said" >&2
 fi

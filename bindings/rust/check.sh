@@ -33,9 +33,9 @@ for word in "$@"; do
     esac
 done
 steps=$((17 + has_msrv))
-need cargo "Install it: apt-get install cargo."
-need cc "Install a C compiler: apt-get install gcc libc6-dev."
-need python3 "Install it: apt-get install python3."
+need cargo "To install it: apt-get install cargo"
+need cc "To install it: apt-get install gcc libc6-dev"
+need python3 "To install it: apt-get install python3"
 if [ -z "${NIZWARF_LIB_DIR:-}" ]; then
     find_library nizwarf_codec
     NIZWARF_LIB_DIR=$here/out/rust/lib

@@ -27,8 +27,8 @@
 set -eu
 . "$(dirname "$0")/../../tools/lib/usage.sh"
 take_none "$@"
-need "${CC:-cc}" "Install a C compiler: apt-get install gcc libc6-dev."
-need python3 "Install it: apt-get install python3."
+need "${CC:-cc}" "To install it: apt-get install gcc libc6-dev"
+need python3 "To install it: apt-get install python3"
 cd "$(dirname "$0")/../.."
 
 folder=$(mktemp -d)

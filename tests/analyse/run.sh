@@ -35,11 +35,11 @@ set -euo pipefail
 . "$(dirname "$0")/../../tools/lib/usage.sh"
 . "$(dirname "$0")/../../tools/lib/program.sh"
 take_none "$@"
-need frama-c "Install it: apt-get install frama-c-base."
-need why3 "Install it: apt-get install why3."
-need z3 "Install it: apt-get install z3."
-need cvc4 "Install it: apt-get install cvc4."
-need python3 "Install it: apt-get install python3."
+need frama-c "To install it: apt-get install frama-c-base"
+need why3 "To install it: apt-get install why3"
+need z3 "To install it: apt-get install z3"
+need cvc4 "To install it: apt-get install cvc4"
+need python3 "To install it: apt-get install python3"
 # (other versions word the same alarms differently)
 if [[ $(frama-c -version) != 25.* ]]; then
     echo "Missing: Frama-C 25, as Debian 12 has it; here it is $(frama-c -version)." >&2

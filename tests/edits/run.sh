@@ -67,11 +67,11 @@ case ${1:-} in
         ;;
     -k)
         only=${2:-}
-        [ -n "$only" ] || { echo "option requires an argument: -k" >&2 && exit 2; }
+        [ -n "$only" ] || { echo "run.sh: option '-k' requires an argument" >&2 && exit 2; }
         shift 2
         ;;
 esac
-need rt "The folder bin of the Rattle toolchain has it; README.md says where that is."
+need rt "Add the directory bin of the Rattle toolchain to PATH."
 crates=("$@")
 [ $# != 0 ] || mapfile -t crates < <(cd "$here" && basename -s .edits -- *.edits)
 for it in "${crates[@]}"; do

@@ -13,9 +13,9 @@ set -euo pipefail
 . "$(dirname "$0")/../../tools/lib/usage.sh"
 . "$(dirname "$0")/../../tools/lib/transport.sh"
 take_none "$@"
-need_root "Only root may mount, and make files of other users"
+need_root "mounting requires root"
 need_fuse
-need pytest-3 "Install it: apt-get install python3-pytest."
+need pytest-3 "To install it: apt-get install python3-pytest"
 status=0
 part_count=4
 

@@ -15,10 +15,10 @@ set -euo pipefail
 . "$(dirname "$0")/../../tools/lib/transport.sh"
 . "$(dirname "$0")/../../tools/lib/mounts.sh"
 [[ $#:${1:-} =~ ^1:[0-9]+$ ]] || { echo "Usage: tests/share/load.sh MINUTES" >&2 && exit 2; }
-need stress-ng "Install it: apt-get install stress-ng."
-need_root "Only root may mount, and make files of other users"
+need stress-ng "To install it: apt-get install stress-ng"
+need_root "mounting requires root"
 need_fuse
-need python3 "Install it: apt-get install python3."
+need python3 "To install it: apt-get install python3"
 # (what is mounted from here on is in no other namespace, where it would stay in use)
 own_mounts "$@"
 # (in memory where that is a file system: one on a disk may say of a directory that it has one name)

@@ -16,7 +16,7 @@ set -eu
 . "$(dirname "$0")/../lib/usage.sh"
 take_none "$@"
 need rt "Put the folder bin of the Rattle toolchain on the PATH."
-need python3 "Install it: apt-get install python3."
+need python3 "To install it: apt-get install python3"
 cd "$(dirname "$0")/../.."
 
 # (documents.py holds README.md's toolchain against it)

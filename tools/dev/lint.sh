@@ -10,8 +10,8 @@ set -euo pipefail
 . "$(dirname "$0")/../lib/usage.sh"
 . "$(dirname "$0")/../lib/program.sh"
 take_none "$@"
-need clang-tidy "Install it: apt-get install clang-tidy."
-need cppcheck "Install it: apt-get install cppcheck."
+need clang-tidy "To install it: apt-get install clang-tidy"
+need cppcheck "To install it: apt-get install cppcheck"
 
 # Left out: names that the C library asks for, as _GNU_SOURCE; arguments of one type beside each other; calls of
 # the C library that only the last words before an end make; and what a kernel's style has otherwise.

@@ -84,7 +84,7 @@ need_package() {
     said=$(mktemp)
     quietly "$said" fetch_package "$2" "$3" "$4" || {
         rm "$said"
-        echo "Debian's package $2 of $3 can't be had by apt-get here." >&2
+        echo "${0##*/}: apt-get cannot download Debian's package $2 of $3" >&2
         exit 2
     }
     rm "$said"
@@ -128,7 +128,7 @@ quietly() {
 get_passthrough() {
     beside=$here/out/share-speed
     if [ ! -x "$beside/passthrough_ll" ]; then
-        echo "Getting libfuse's sources and bindfs .." >&2
+        echo "Downloading libfuse's sources and bindfs .." >&2
         rm -rf "$beside"
         mkdir -p "$beside"
         quietly "$beside/said" make_passthrough "$beside" || exit 1

@@ -15,7 +15,7 @@ umask 022
 
 # Stops, since something is not as it should be.
 wrong() {
-    echo "FAILED: $*" >&2
+    echo "${0##*/}: $*" >&2
     exit 1
 }
 
@@ -24,7 +24,7 @@ set_source() {
     source=$1 version=$2
     if [ -z "$proved" ]; then
         version=$version~unproved
-        echo "NOT PROVED: the version of all that is packed is $version." >&2
+        echo "NOT PROVED: the version of the packages is $version." >&2
     fi
 }
 
@@ -51,8 +51,8 @@ prove_crates() {
     done
     [ ${#missing[@]} != 0 ] || return 0
     need_toolchain "${missing[0]}"
-    echo "To be proved: ${missing[*]}. That takes minutes; if no crate below was proved before, half an hour on four" >&2
-    echo "processors, with 8 GB of memory. With --unproved it is packed without." >&2
+    echo "Proving ${missing[*]}. This takes minutes, or half an hour on four processors with 8 GB of memory if no crate below" >&2
+    echo "was proved before. Use --unproved to pack without a proof." >&2
     for name in "${missing[@]}"; do
         begun=$SECONDS
         echo "  $((++number)) of ${#missing[@]}: $name" >&2
@@ -60,7 +60,7 @@ prove_crates() {
         [[ $file != *.a ]] || command=lib
         [ ! -e "$here/crates/$name/stdin" ] || stdin=$here/crates/$name/stdin
         (cd "$here/crates/$name" && rt "$command") < "$stdin" > "$work/proof" 2>&1 \
-            || { tail -n 20 "$work/proof" >&2 && wrong "$name is not proved."; }
+            || { tail -n 20 "$work/proof" >&2 && wrong "$name is not proved"; }
         # (it stays as old as it was if nothing of it changed)
         touch "$file"
         echo "  $name is proved: $((SECONDS - begun)) s" >&2
@@ -130,7 +130,7 @@ depends_of() {
                 "$soname") echo "libnizwarf1 (>= $release~)" ;;
                 ld-linux*) ;;
                 # (the first line, as `libcap-ng0:amd64: /lib/..`, up to the architecture or the next package)
-                *) dpkg-query -S "*/$name" | sed 's/[:,].*//;q' || wrong "no package of Debian has $name, which ${file##*/} needs." ;;
+                *) dpkg-query -S "*/$name" | sed 's/[:,].*//;q' || wrong "no package of Debian has $name, which ${file##*/} needs" ;;
             esac
         done
     done < <(find "$1" -type f ! -name '*.a')
@@ -156,7 +156,7 @@ fill_control() {
 # The changes of the packages, as Debian has them.
 debian_changes() {
     printf '%s (%s-1) unstable; urgency=medium\n\n' "$source" "$version"
-    [ -n "$proved" ] || printf '  * NOT PROVED: this build stands on no proof.\n'
+    [ -n "$proved" ] || printf '  * NOT PROVED: this build has no proof.\n'
     printf '  * Version %s: changelog.gz has what changed.\n\n' "$release"
     printf ' -- %s  %s\n' "$(sed -n 's/^Maintainer: //p' "$packaging/control" | sed -n 1p)" \
         "$(date -uRd "@$SOURCE_DATE_EPOCH")"
@@ -192,9 +192,9 @@ make_deb() {
 # Holds packages against lintian: hold_lintian PACKAGE..
 hold_lintian() {
     if ! command -v lintian > /dev/null; then
-        echo "Missing: the command \`lintian\`: apt-get install lintian." >&2
+        echo "${0##*/}: lintian is not installed. To install it: apt-get install lintian" >&2
         return
     fi
-    lintian --allow-root --tag-display-limit 0 --fail-on error "$@" || wrong "lintian."
+    lintian --allow-root --tag-display-limit 0 --fail-on error "$@" || wrong "lintian finds errors"
     echo "lintian finds no error."
 }

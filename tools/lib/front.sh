@@ -1,19 +1,19 @@
-# For the scripts that build virtiofsd: they source usage.sh and transport.sh first, and have a function
-# `refuse`, which stops with a message.
+# For the scripts that build virtiofsd: they must source usage.sh and transport.sh first, and define a function `refuse`,
+# which prints a message and exits.
 # shellcheck shell=bash
 
-# Sets `folder` to the only word that is no option: take_folder WORD.
+# Sets `folder` to the only argument that is not an option: take_folder ARGUMENT.
 take_folder() {
     case $1 in
-        -* | '') refuse "There is no option '$1'." ;;
+        -* | '') refuse "unrecognized option '$1'" ;;
     esac
-    [ -z "$folder" ] || refuse "There is more than one folder."
+    [ -z "$folder" ] || refuse "unexpected argument '$1'"
     folder=$1
 }
 
-# Sets `folder` to where the daemons are built, if none was given, and makes it.
+# Creates `folder`, in which the daemons are built: out/virtiofsd, unless one was given.
 make_folder() {
     folder=${folder:-$here/out/virtiofsd}
-    mkdir -p "$folder" || refuse "$folder can't be made."
+    mkdir -p "$folder" || refuse "cannot create directory '$folder'"
     folder=$(cd "$folder" && pwd)
 }

@@ -21,9 +21,9 @@ fetch_guest() {
 find_guest() {
     local name=${1:-linux-image-cloud-amd64} command suite
     for command in apt-get apt-cache dpkg-deb; do
-        need "$command" "The kernel and busybox are packages of Debian."
+        need "$command" "It is required because the kernel and busybox are packages of Debian."
     done
-    need xz "Install it: apt-get install xz-utils."
+    need xz "To install it: apt-get install xz-utils"
     busybox=$here/out/guest/busybox
     kernel=$here/out/guest/${name//\//-}
     # (`/SUITE`, or nothing if there is no slash)
@@ -32,7 +32,7 @@ find_guest() {
     echo "Downloading $name .." >&2
     mkdir -p "$here/out/guest"
     quietly "$work/said" fetch_guest "${name%/*}" "${suite#/}" || {
-        echo "The packages $name and busybox-static can't be had by apt-get here: try apt-get update." >&2
+        echo "${0##*/}: apt-get cannot download $name and busybox-static: run apt-get update" >&2
         exit 2
     }
 }
@@ -66,7 +66,7 @@ await_listener() {
     local until=$((SECONDS + 60))
     while [ ! -S "$1" ]; do
         if [ "$SECONDS" -ge "$until" ] || ! kill -0 "$2" 2> /dev/null; then
-            echo "FAILED: nothing listens at $1." >&2
+            echo "${0##*/}: nothing listens on '$1'" >&2
             return 1
         fi
         sleep 0.05

@@ -9,7 +9,7 @@ hold_pages() {
     # (declared again after the header, where C refuses another form)
     awk -f "$here/packaging/prototypes.awk" "$1"/*.3 \
         | cc -fsyntax-only -Werror -I "$here/include" -include nizwarf_ops.h -include nizwarf_tree.h -x c - || {
-        echo "A page shows a function in another form than the headers." >&2
+        echo "A manual page shows a function with another prototype than the headers." >&2
         status=1
     }
     for page in "$1"/*.3; do
@@ -18,7 +18,7 @@ hold_pages() {
         if [ ! -s "$example" ] ||
             ! make -s -B -C "$1" -f "$here/programs/Makefile" example CFLAGS="-Wall -Wextra -Werror -fsyntax-only" \
                 LIBRARY=-lnizwarf INCLUDE="$here/include"; then
-            echo "The example of ${page##*/} is missing, or does not compile." >&2
+            echo "The example of ${page##*/} is missing or does not compile." >&2
             status=1
         fi
     done

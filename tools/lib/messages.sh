@@ -9,10 +9,10 @@ build_programs() {
     local name job jobs=()
     for name in "$@"; do
         if is_built "$name"; then
-            echo "$name is the proved program." >&2
+            echo "The program $name is proved." >&2
             continue
         fi
-        echo "$name is built without a proof (\`rt run < stdin\` in crates/$name proves it)." >&2
+        echo "The program $name is built without a proof: \`rt run < stdin\` in crates/$name proves it." >&2
         "$here/tools/lib/unproved.sh" "$name" &
         jobs+=($!)
     done

@@ -5,8 +5,8 @@
 # Runs the script anew where what it mounts is seen by nobody else, and ends with it: own_mounts "$@". The variable has
 # the number of that namespace, so one that comes from elsewhere is not believed, and scripts that it starts stay in it.
 own_mounts() {
-    need unshare "Install util-linux."
-    need mountpoint "Install util-linux."
+    need unshare "To install it: apt-get install util-linux"
+    need mountpoint "To install it: apt-get install util-linux"
     if [ "${NIZWARF_OWN_MOUNTS:-}" != "$(readlink /proc/self/ns/mnt)" ]; then
         # shellcheck disable=SC2016
         exec unshare --mount --propagation private \

@@ -21,9 +21,8 @@ is_built() {
 # Stops where the toolchain is not there.
 need_toolchain() {
     if ! command -v rt > /dev/null; then
-        echo "Missing: the command \`rt\` of the Rattle toolchain, which builds the program." >&2
-        echo "Put the toolchain's folder bin on the PATH. There is no built program of" >&2
-        echo "today's sources at $here/crates/${1:-vfs_demo}/out/${1:-vfs_demo}." >&2
+        echo "${0##*/}: 'rt' of the Rattle toolchain is not installed: add the toolchain's directory bin to PATH. It is" >&2
+        echo "required because $here/crates/${1:-vfs_demo}/out/${1:-vfs_demo} is missing or older than its sources." >&2
         exit 2
     fi
 }

@@ -16,18 +16,18 @@ soname=libnizwarf.so.1
 find_library() {
     local name=${1:-nizwarf_tree}
     local built=$here/crates/$name/out/lib$name.a
-    need cc "Install a C compiler: apt-get install gcc libc6-dev."
-    need rt "The Rattle toolchain builds the library: put its folder bin on the PATH."
+    need cc "To install it: apt-get install gcc libc6-dev"
+    need rt "The library requires the Rattle toolchain: add its directory bin to PATH."
     if ! grep -q "^$name staticlib:" "$here/crates.txt" || [ ! -d "$here/tools/lib/unproved/$name" ]; then
-        echo "There is no library $name for C: \`tools/new-library.sh $name\` makes it." >&2
+        echo "${0##*/}: unknown library '$name': create it with \`tools/new-library.sh $name\`" >&2
         exit 2
     fi
     if is_proved "$name"; then
-        echo "The library $name is the proved one." >&2
+        echo "The library $name is proved." >&2
     else
         built=$here/out/unproved/lib$name.a
         "$here/tools/lib/unproved.sh" "$name"
-        echo "The library $name is built without a proof, and up to five times slower; \`rt lib\` in crates/$name proves it." >&2
+        echo "The library $name is built without a proof and up to five times slower: \`rt lib\` in crates/$name proves it." >&2
     fi
     # (a library of tools/new-library.sh has the header of nizwarf_tree)
     case $name in
@@ -69,8 +69,8 @@ need_proved() {
     local name
     for name in "${@:2}"; do
         if [ -z "$1" ] && ! is_proved "$name"; then
-            echo "The library $name is not proved, or older than its sources: \`rt lib\` in crates/$name proves it." >&2
-            echo "The option --unproved measures it without a proof, which is up to five times slower." >&2
+            echo "${0##*/}: the library $name is not proved or older than its sources: \`rt lib\` in crates/$name proves it" >&2
+            echo "Use --unproved to measure it without a proof, which is up to five times slower." >&2
             exit 2
         fi
     done
@@ -105,13 +105,13 @@ find_border() {
 # Tells if nizwarf-share would have no filter of system calls.
 tell_of_filter() {
     if ! cc -include seccomp.h -fsyntax-only -x c - < /dev/null 2> /dev/null; then
-        echo "It is built without libseccomp: \`apt-get install libseccomp-dev\` has it." >&2
+        echo "Building without libseccomp. To install it: apt-get install libseccomp-dev" >&2
     fi
 }
 
 # Builds a program of programs/Makefile into a folder, with what `library` has: make_program FOLDER PROGRAM FLAGS..
 make_program() {
-    need make "Install it: apt-get install make."
+    need make "To install it: apt-get install make"
     make -s -B -C "$1" -f "$here/programs/Makefile" "$2" CFLAGS="-Wall -Wextra -Werror ${*:3}" \
         LIBRARY="${library[*]}" BORDER="${border:-}" INCLUDE="$here/include" || return 1
 }

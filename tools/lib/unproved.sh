@@ -23,8 +23,7 @@ if [ $# = 1 ] && [ -e "$here/crates/$name/src/main.rt" ]; then
 elif [ $# = 1 ] && [ -n "$name" ] && [ -d "$calls" ] && [ -e "$here/crates/$name/src/lib.rt" ]; then
     out=$here/out/unproved/lib$name.a
 else
-    echo "Usage: tools/lib/unproved.sh NAME, where crates/NAME is a program, or a library with calls in" >&2
-    echo "tools/lib/unproved." >&2
+    echo "Usage: tools/lib/unproved.sh NAME, where crates/NAME is a program, or a library with calls in tools/lib/unproved" >&2
     exit 2
 fi
 if [ -e "$out" ] && is_newest "$out"; then
@@ -32,7 +31,7 @@ if [ -e "$out" ] && is_newest "$out"; then
 fi
 need_toolchain "$name"
 mkdir -p "$(dirname "$out")"
-echo "Building $name without a proof, up to five times slower than the proved one .." >&2
+echo "Building $name without a proof, which is up to five times slower .." >&2
 
 kit=$(dirname "$(rt doc)")
 folder=$(mktemp -d)
@@ -94,7 +93,7 @@ fi
 (cd "$root/crates/$name" && "$folder/kit/bin/rt" try --steps 1 "${tests[@]}") \
     < /dev/null > /dev/null 2> "$folder/said" || true
 if [ ! -e "$folder/module.bc" ]; then
-    echo "\`rt try\` compiled no module of $name:" >&2
+    echo "unproved.sh: \`rt try\` compiled no module of $name:" >&2
     tail -n 20 "$folder/said" >&2
     exit 2
 fi

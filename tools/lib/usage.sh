@@ -1,56 +1,56 @@
-# Sourced by the tools: one that is asked for help prints the comment at the head of its file.
+# Sourced by the tools. With --help a tool prints the comment at the head of its file.
 # shellcheck shell=bash
 case ${1:-} in
     -h | --help)
-        # (from the second line to the first that is no comment)
+        # (from the second line to the first line that is not a comment)
         sed -n '2,${/^#/!q;s/^# \{0,1\}//p}' "$0"
         exit 0
         ;;
 esac
 
-# Stops where a command is not there: need COMMAND "what to do".
+# Exits if a command is not installed: need COMMAND "WHAT TO DO".
 need() {
     if ! command -v "$1" > /dev/null; then
-        echo "Missing: the command \`$1\`. $2" >&2
+        echo "${0##*/}: '$1' is not installed. $2" >&2
         exit 2
     fi
 }
 
-# Stops where commands are not there, and names the packages of all of them: need_packages "COMMAND PACKAGE.."..
+# Exits if commands are not installed, and prints the packages of all of them: need_packages "COMMAND PACKAGE.."..
 need_packages() {
     local it words missing=() having=()
     for it in "$@"; do
         read -ra words <<< "$it"
         command -v "${words[0]}" > /dev/null || { missing+=("${words[0]}") && having+=("${words[@]:1}"); }
     done
-    [ ${#missing[@]} = 0 ] || { echo "Missing: ${missing[*]}. Install them: apt-get install ${having[*]}." >&2 && exit 2; }
+    [ ${#missing[@]} = 0 ] || { echo "${0##*/}: not installed: ${missing[*]}. To install them: apt-get install ${having[*]}" >&2 && exit 2; }
 }
 
-# Stops where somebody else than root runs it: need_root "why".
+# Exits unless it is run by root: need_root "WHY", such as "mounting requires root".
 need_root() {
     if [ "$(id -u)" != 0 ]; then
-        echo "$1: run it as root." >&2
+        echo "${0##*/}: $1" >&2
         exit 2
     fi
 }
 
-# Stops where no file system can be mounted.
+# Exits if no file system can be mounted over FUSE.
 need_fuse() {
     if [ ! -e /dev/fuse ]; then
-        echo "Missing: /dev/fuse. \`modprobe fuse\` makes it where the kernel has the module." >&2
+        echo "${0##*/}: /dev/fuse is missing: load the kernel module with \`modprobe fuse\`" >&2
         exit 2
     fi
 }
 
-# Stops on another processor than those that the libraries are built for.
+# Exits unless the processor is one that the libraries are built for.
 need_x86_64() {
     if [ "$(uname -m)" != x86_64 ]; then
-        echo "It is made for x86-64 alone." >&2
+        echo "${0##*/}: only x86-64 is supported" >&2
         exit 2
     fi
 }
 
-# Stops a tool that takes no arguments where it was given some: take_none "$@".
+# Exits if a tool that has no arguments was given some: take_none "$@".
 take_none() {
     if [ $# != 0 ]; then
         echo "Usage: $0" >&2
@@ -58,8 +58,8 @@ take_none() {
     fi
 }
 
-# Tells that a part of the script begins, and how many there are: part "what it does". That is how often the script has
-# this word at the beginning of a command, if `part_count` does not say another number.
+# Prints that a part of the script begins, and how many parts there are: part "NAME". Their number is `part_count`, or else
+# how often the script calls this function.
 part_number=0
 part_script=$(realpath "$0")
 part() {

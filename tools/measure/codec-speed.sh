@@ -1,13 +1,14 @@
 #!/usr/bin/env bash
-# Counts the instructions that the C interface (include/nizwarf.h) takes to decode a request, and to decode it and encode its
-# reply, for some requests in one segment: a row of a table for each class. The columns with -flto are those of a program
-# that is linked with the library statically and by link-time optimisation, which inlines the library's C files.
+# Counts the instructions of the C interface (include/nizwarf.h) to decode a request, and to decode it and encode its reply,
+# for some requests in one segment: a table row for each class. The columns with -flto are those of a program that is linked
+# with the library statically and by link-time optimisation, which inlines the library's C files.
 #
 # Usage: tools/measure/codec-speed.sh [--unproved]
-# It requires the proved library (`rt lib` in crates/nizwarf_codec). With --unproved it measures one without a proof where
-# no proved one is built: that is up to five times slower, because it checks itself as it runs, and the table says so.
-# All instructions are counted, also those of the library's C files, as the difference between a long run and a short one
-# under valgrind.
+#
+# It requires the proved library (`rt lib` in crates/nizwarf_codec). With --unproved it measures a library without a proof if
+# the proved one is not built. Such a library is up to five times slower, because it checks itself at run time; the table says
+# so. All instructions are counted, including those of the library's C files, as the difference between a long run and a short
+# one under valgrind.
 set -euo pipefail
 . "$(dirname "$0")/../lib/usage.sh"
 . "$(dirname "$0")/../lib/transport.sh"
@@ -18,7 +19,7 @@ if [ "${1:-}" = --unproved ]; then
 fi
 take_none "$@"
 need_proved "$unproved" nizwarf_codec
-need valgrind "Install it: apt-get install valgrind."
+need valgrind "To install it: apt-get install valgrind"
 find_library nizwarf_codec
 folder=$(mktemp -d)
 trap 'rm -rf "$folder"' EXIT

@@ -1,16 +1,17 @@
 #!/usr/bin/env bash
-# Measures how nizwarf-share grows with what it serves, beside Debian's virtiofsd and libfuse's passthrough_ll: the
-# memory of a file from 1,000 to 3,000,000, the time of a LOOKUP among them, of a FORGET of all, of DESTROY and INIT; of
-# a name of a folder of 10 to 1,000,000; requests a second over 1 to 8 queues, by 1 to 64 in flight, and of eight machines
-# at once. It prints tables in Markdown; the progress goes to standard error.
+# Measures how nizwarf-share grows, compared with Debian's virtiofsd and libfuse's passthrough_ll: memory per file for 1,000 to
+# 3,000,000 files; the time of a LOOKUP among them, of a FORGET of all, of DESTROY and INIT, and of a name in a directory of 10
+# to 1,000,000; requests per second over 1 to 8 queues with 1 to 64 in flight, and of eight machines at once. It prints tables
+# in Markdown; progress is printed to standard error.
 #
 # Usage: tools/measure/growth.sh [--unproved] [MOST]
-# MOST is the greatest number of files, 3000000 if none is given, which take 5 GB of memory in a tmpfs of its own, and some
-# five minutes. Nothing is mounted by FUSE, because tools/measure/pace.c takes the place of a guest.
 #
-# It requires root, python3, a C compiler and the Rattle toolchain. It gets passthrough_ll, from libfuse's sources, and
-# virtiofsd from Debian's packages, by apt-get, into ignored folders; nothing is installed. It requires the proved libraries;
-# with --unproved it measures libraries without a proof where these are not built, which are up to five times slower.
+# MOST is the largest number of files, by default 3000000, which take 5 GB of memory in a tmpfs and about five minutes. Nothing
+# is mounted over FUSE, because tools/measure/pace.c takes the place of a guest.
+#
+# It requires root, python3, a C compiler and the Rattle toolchain. apt-get downloads passthrough_ll, from libfuse's sources,
+# and virtiofsd into directories that git ignores; nothing is installed. It requires the proved libraries; with --unproved it
+# measures libraries without a proof if these are not built, which are up to five times slower.
 # Exit status 0: it was measured; 1: it failed; 2: it could not start.
 set -euo pipefail
 . "$(dirname "$0")/../lib/usage.sh"
@@ -25,13 +26,13 @@ if [ "${1:-}" = --unproved ]; then
 fi
 most=${1:-3000000}
 if [ $# -gt 1 ] || ! [[ $most =~ ^[1-9][0-9]{3,6}$ ]] || [ "$most" -gt 3000000 ]; then
-    echo "Usage: tools/measure/growth.sh [--unproved] [MOST], of 1000 to 3000000 files" >&2
+    echo "Usage: tools/measure/growth.sh [--unproved] [MOST], where MOST is 1000 to 3000000" >&2
     exit 2
 fi
 need_proved "$unproved" nizwarf_codec nizwarf_border
-need_root "Daemons that open files by handles are started as root"
+need_root "file handles require root"
 for command in python3 cc dpkg-deb; do
-    need "$command" "Install it."
+    need "$command" "Install it first."
 done
 own_mounts "${given[@]}"
 get_passthrough

@@ -1,16 +1,20 @@
 #!/usr/bin/env bash
-# Times libfuse's library over the layer here beside libfuse's own, by requests that no kernel and no file system costs:
-# tools/measure/libfuse_speed.c hands them to the library, which tools/libfuse.sh builds. A row has the least processor time of
-# both, in turns, its ratio, and that of the least by the clock; below 1 it is quicker here; then, if valgrind is
-# installed, the ratio of instructions. (The least, since a busy processor is half as quick, by turns)
+# Compares the speed of libfuse's library over this protocol layer with that of libfuse's own, without a kernel or a file
+# system: tools/measure/libfuse_speed.c passes requests to the library, which tools/libfuse.sh builds. A row has the minimum
+# processor time of both, measured in turns, its ratio, and the ratio by the clock; below 1, this layer is faster. If valgrind
+# is installed, the ratio of instructions follows. (The minimum, because a busy processor is half as fast at times.)
 #
-# Usage: tools/measure/libfuse-speed.sh [--unproved] [--mount [--one] [--classes LIST]] [ROUNDS [FOLDER]]
-# Without ROUNDS it has 40, with --mount 9. FOLDER is that of tools/libfuse.sh. It takes a minute. It requires the proved
-# library; with --unproved it measures one without a proof where that is not built, which is up to five times slower.
-# With --mount libfuse's passthrough_ll is mounted with both, in turns, and files are used: the tables and the classes are
-# those of tools/measure/share-speed.sh. That requires root, and takes three minutes. With --one all is on one processor:
-# with more it is chance which processors the server and the programs that wait for it run on, and few rounds say little.
-# Status 0: it was timed; 1: not so; 2: it could not start.
+# Usage: tools/measure/libfuse-speed.sh [--unproved] [--mount [--one] [--classes LIST]] [ROUNDS [DIRECTORY]]
+#
+# ROUNDS is 40 by default, or 9 with --mount. DIRECTORY is that of tools/libfuse.sh. It takes a minute.
+#
+#   --unproved      measure a library without a proof if the proved one is not built; it is up to five times slower
+#   --mount         mount libfuse's passthrough_ll with both in turns, and use files; the tables and classes are those of
+#                   tools/measure/share-speed.sh; this requires root, and takes three minutes
+#   --one           run all on one processor: with more, it is chance which ones the server and its clients use, and a few
+#                   rounds show little
+#   --classes LIST  only these classes, separated by commas
+# Exit status 0: it was measured; 1: it failed; 2: it could not start.
 set -euo pipefail
 . "$(dirname "$0")/../lib/usage.sh"
 . "$(dirname "$0")/../lib/transport.sh"
@@ -35,7 +39,7 @@ if [ "$mount ${1:-}" = "yes --classes" ] && [ $# -ge 2 ]; then
 fi
 rounds=${1:-$([ -n "$mount" ] && echo 9 || echo 40)}
 if ! [[ $rounds =~ ^[1-9][0-9]*$ ]] || [ $# -gt 2 ]; then
-    echo "Usage: tools/measure/libfuse-speed.sh [--unproved] [--mount [--one] [--classes LIST]] [ROUNDS [FOLDER]]" >&2
+    echo "Usage: tools/measure/libfuse-speed.sh [--unproved] [--mount [--one] [--classes LIST]] [ROUNDS [DIRECTORY]]" >&2
     exit 2
 fi
 need_proved "$unproved" nizwarf_codec
@@ -45,7 +49,7 @@ theirs=$("$here/tools/libfuse.sh" --unmodified "$folder")
 suite=$(sed -n 's/^VERSION_CODENAME=//p' /etc/os-release)
 measured="Measured at commit $(git -C "$here" describe --always --dirty --exclude '*'), $(library_kind nizwarf_codec)."
 if [ -n "$mount" ]; then
-    need_root "It mounts"
+    need_root "mounting requires root"
     own_mounts "${given[@]}"
     work=$(mktemp -d -p /dev/shm)
     trap 'umount -lq "$work"/mount 2> /dev/null || true; rm -rf "$work"' EXIT

@@ -1,35 +1,35 @@
 #!/usr/bin/env bash
-# Measures nizwarf-share beside virtiofsd, libfuse's examples and bindfs, or the tree in memory beside tmpfs and them, and
-# prints tables in Markdown: ratios of processor time, of runs in turns, medians and quartiles. Below 1 it takes less here.
+# Measures nizwarf-share beside virtiofsd, libfuse's examples and bindfs, or the tree in memory beside tmpfs and these, and
+# prints tables in Markdown: ratios of processor time, medians and quartiles of runs in turns. Below 1, Nizwarf takes less.
 #
 # Usage: tools/measure/share-speed.sh [--unproved] [--layer] [--clock] [--rounds N] [--jobs N] [--classes LIST] [TABLE..]
 #
-#   virtiofsd  over vhost-user, each daemon with its defaults, by Debian's virtiofsd 1.13.2 (2 min)
+#   virtiofsd  over vhost-user, each daemon with its defaults, relative to Debian's virtiofsd 1.13.2 (2 min)
 #   pools      the same with thread pools of 0, 2 and 4 (3 min)
-#   ring       over /dev/fuse by io_uring, beside libfuse 3.18.3's own ring (5 min)
-#   read       over /dev/fuse by read(2), beside libfuse of this machine's Debian and bindfs (5 min)
+#   ring       over /dev/fuse by io_uring, with libfuse 3.18.3's io_uring (5 min)
+#   read       over /dev/fuse by read(2), with libfuse of this machine's Debian and bindfs (5 min)
 #   calls      system calls of each server over /dev/fuse (2 min)
-#   tree       the tree as tools/mount.sh mounts it, by io_uring where Linux offers it (10 min)
+#   tree       the tree as tools/mount.sh mounts it, by io_uring if Linux supports it (10 min)
 #
-# Without a TABLE all are printed but the tree. The times are those of a quiet machine with four processors; the first run
-# also downloads and builds the others, which takes three minutes.
+# Without a TABLE, all except the tree are printed. The times are those of an idle machine with four processors; the first run
+# also downloads and builds the other servers, which takes three minutes.
 #
-#   --unproved  measures a library that is built without a proof, where no proved one is there. Such a library is up to
-#               five times slower, so figures of it say little: each table says so.
-#   --layer     adds to the tables over vhost-user virtiofsd as tools/virtiofsd.sh builds it, unmodified and with the
-#               protocol layer here; building both takes five minutes more, and cargo
-#   --clock     adds tables of the time by the clock, which only a quiet machine makes comparable
-#   --rounds N  45 over vhost-user and 11 over /dev/fuse where it is not given
-#   --jobs N    how many processes use a mount at once (1)
-#   --classes LIST  only these classes, separated by commas; an unknown one prints the list
+#   --unproved      measure a library without a proof if the proved one is not built; it is up to five times slower, so its
+#                   figures mean little, and each table says so
+#   --layer         add to the tables over vhost-user virtiofsd as tools/virtiofsd.sh builds it, unmodified and with this
+#                   protocol layer; building both takes five minutes more, and requires cargo
+#   --clock         add tables of the time by the clock, which are comparable only on an idle machine
+#   --rounds N      the number of rounds: by default 45 over vhost-user and 11 over /dev/fuse
+#   --jobs N        the number of processes that use a mount at once (1 by default)
+#   --classes LIST  only these classes, separated by commas; an unknown class prints the list
 #
 # Over vhost-user tools/measure/pace.c takes the place of a guest: it has a processor of its own, and all daemons share the
-# others. Over /dev/fuse tools/measure/share_speed.c uses files. All folders are in memory, so that no disk is measured.
-# Processor time is that of a server and of its descendants, the kernel's part included.
+# others. Over /dev/fuse tools/measure/share_speed.c uses files. All directories are in memory, so that no disk is measured.
+# Processor time is that of a server and its descendants, including the kernel's part.
 #
-# It requires root, /dev/fuse for the mounts, git, Python 3, a C compiler and what tools/libfuse.sh requires. The table `ring`
-# requires that Linux offers io_uring: echo Y > /sys/module/fuse/parameters/enable_uring. The others are Debian's packages,
-# or built from their sources, in the ignored folder `out`; nothing is installed.
+# It requires root, /dev/fuse for the mounts, git, Python 3, a C compiler, and the programs that tools/libfuse.sh requires. The
+# table `ring` requires that io_uring is enabled: echo Y > /sys/module/fuse/parameters/enable_uring. The other servers are
+# Debian's packages, or are built from their sources, in the directory `out`, which git ignores; nothing is installed.
 # Exit status 0: the tables were printed; 1: a measurement failed; 2: it could not start.
 set -euo pipefail
 . "$(dirname "$0")/../lib/usage.sh"
@@ -38,7 +38,7 @@ set -euo pipefail
 . "$(dirname "$0")/../lib/mounts.sh"
 
 refuse() {
-    echo "$1" >&2
+    echo "share-speed.sh: $1" >&2
     echo "Usage: tools/measure/share-speed.sh [--unproved] [--layer] [--clock] [--rounds N] [--jobs N] [--classes LIST] [TABLE..]" >&2
     exit 2
 }
@@ -50,28 +50,28 @@ while [ $# -gt 0 ]; do
         --layer) layer=yes ;;
         --clock) words+=("$1") ;;
         --rounds | --jobs)
-            [[ ${2:-} =~ ^[1-9][0-9]{0,3}$ ]] || refuse "The option $1 requires a number from 1 on."
+            [[ ${2:-} =~ ^[1-9][0-9]{0,3}$ ]] || refuse "option '$1' requires a number from 1 on"
             if [ "$1" = --jobs ]; then jobs=("$1" "$2"); else words+=("$1" "$2"); fi
             shift
             ;;
         --classes)
-            [[ ${2:-} =~ ^[a-z0-9,-]+$ ]] || refuse "The option $1 requires names, separated by commas."
+            [[ ${2:-} =~ ^[a-z0-9,-]+$ ]] || refuse "option '$1' requires names separated by commas"
             words+=("$1" "$2")
             shift
             ;;
         virtiofsd | pools | ring | read | calls | tree) tables+=("$1") ;;
-        *) refuse "Unknown option or table: $1." ;;
+        *) refuse "unknown option or table '$1'" ;;
     esac
     shift
 done
 [ ${#tables[@]} -gt 0 ] || tables=(virtiofsd pools ring read calls)
-need_root "It mounts, and daemons that change their user are started as root"
+need_root "mounting requires root"
 for command in git python3 cc dpkg-deb; do
-    need "$command" "Install it."
+    need "$command" "Install it first."
 done
 uring=$(cat /sys/module/fuse/parameters/enable_uring 2> /dev/null || echo none)
 case " ${tables[*]} " in
-    *" ring "*) [ "$uring" = Y ] || refuse "Linux does not offer io_uring: echo Y > /sys/module/fuse/parameters/enable_uring" ;;
+    *" ring "*) [ "$uring" = Y ] || refuse "io_uring is not enabled: run echo Y > /sys/module/fuse/parameters/enable_uring" ;;
 esac
 case " ${tables[*]} " in
     *" tree "*) need_proved "$unproved" nizwarf_tree ;;
@@ -111,7 +111,7 @@ list_defaults() {
     add_virtiofsd trixie ''
     line nizwarf-share "$share" --log-level=error "${socket[@]}"
     # (Debian's unstable suite may be out of reach)
-    (add_virtiofsd sid '') || echo "Debian's sid has no virtiofsd here: its column is left out." >&2
+    (add_virtiofsd sid '') || echo "share-speed.sh: Debian's sid is not available: leaving out its virtiofsd" >&2
     if [ -n "$layer" ]; then
         built=$("$here/tools/virtiofsd.sh" --unmodified)
         line "virtiofsd 1.13.2, built here" "$built" "${socket[@]}"
@@ -230,7 +230,7 @@ for table in "${tables[@]}"; do
             ;;
         calls)
             build_libfuse
-            need strace "Install it: apt-get install strace."
+            need strace "To install it: apt-get install strace"
             printf 'System calls, as strace counts them; those of less than one in twenty are left out. With a GETATTR, an open or a\n'
             printf 'rename the LOOKUP before it is counted.\n\n'
             over_mount list_calls --calls

@@ -1,14 +1,15 @@
 #!/usr/bin/env bash
-# Measures what requests cost, by the library of crates/test_speed beside virtiofsd's own Rust, in one process.
+# Compares the time of requests of crates/test_speed with that of virtiofsd's own Rust, in one process.
 #
-# Usage: tools/measure/speed.sh [--source FOLDER] [--only TEXT] [--runs N] [--ms N]
-# tests/compare/virtiofsd_code/build.sh builds virtiofsd's Rust from Debian's package of its source, or from FOLDER. For each class of
-# request whose name contains TEXT, and each cutting of it, it prints the processor time of a request on both sides, the
-# least of N runs of N milliseconds, and its allocations. The last column is the median of the ratios of runs that followed
-# each other; trust that one. The replies of both are compared first, and nothing is timed where they differ.
+# Usage: tools/measure/speed.sh [--source DIRECTORY] [--only TEXT] [--runs N] [--ms N]
 #
-# It builds the library where sources are newer, with its proof: in a minute where the crates below are
-# proved, and in half an hour where nothing is.
+# tests/compare/virtiofsd_code/build.sh builds virtiofsd's Rust from the sources of Debian's package, or from DIRECTORY. For
+# each class of requests whose name contains TEXT, and each way to cut it into segments, it prints the processor time of a
+# request on both sides, the minimum of N runs of N milliseconds, and its allocations. The last column is the most reliable: the
+# median of the ratios of consecutive runs. The replies of both are compared first, and nothing is measured if they differ.
+#
+# It builds the library with its proof if a source is newer: in a minute if the crates below are proved, and otherwise in half
+# an hour.
 set -euo pipefail
 . "$(dirname "${BASH_SOURCE[0]}")/../lib/usage.sh"
 here=$(cd "$(dirname "${BASH_SOURCE[0]}")/../.." && pwd)
@@ -20,26 +21,26 @@ source=() flags=()
 while [ $# -gt 0 ]; do
     case $1 in
         --source)
-            [ -d "${2:-}" ] || { echo "--source wants a folder with virtiofsd's four files." >&2 && exit 2; }
+            [ -d "${2:-}" ] || { echo "speed.sh: option '--source' requires a directory with virtiofsd's four files" >&2 && exit 2; }
             source=(--source "$2") && shift 2
             ;;
         --only | --runs | --ms)
-            [ $# -ge 2 ] || { echo "$1 wants a value." >&2 && exit 2; }
+            [ $# -ge 2 ] || { echo "speed.sh: option '$1' requires an argument" >&2 && exit 2; }
             flags+=("$1" "$2") && shift 2
             ;;
         *) sed -n '2,/^set/s/^# \{0,1\}//p' "${BASH_SOURCE[0]}" >&2 && exit 2 ;;
     esac
 done
 
-need rt "The Rattle toolchain builds the library: put its folder bin on the PATH."
+need rt "The library requires the Rattle toolchain: add its directory bin to PATH."
 kit=$(cd "$(dirname "$(rt doc)")" && pwd)
-need rustc "Install a Rust compiler: apt-get install rustc."
+need rustc "To install it: apt-get install rustc"
 "$here/tests/compare/virtiofsd_code/build.sh" "${source[@]}"
 folder=$(mktemp -d)
 trap 'rm -rf "$folder"' EXIT
 if [ ! -e "$library" ] ||
     [ -n "$(find "$here/crates.txt" "$here"/crates/*/{src,specs,proofs} -newer "$library" -print -quit 2> /dev/null)" ]; then
-    echo "Building $library with its proof, which takes half an hour where nothing is proved yet .." >&2
+    echo "Building $library with its proof, which takes half an hour if nothing is proved yet .." >&2
     (cd "$crate" && rt lib > "$folder/said" 2>&1) || { tail -n 20 "$folder/said" >&2 && exit 1; }
 fi
 
@@ -50,7 +51,7 @@ rust=(--edition 2021 -C opt-level=3 -C target-cpu=x86-64-v2 --cap-lints allow
 rustc "${rust[@]}" -o "$folder/beside" "$here/tests/compare/virtiofsd_code/src/bin/beside.rs"
 # The replies of both, by checksums: what differs is not the same work.
 if ! "$folder/beside" "${flags[@]}" --digests > "$folder/digests"; then
-    grep DIFFER "$folder/digests" >&2 || echo "The replies can't be compared." >&2
+    grep DIFFER "$folder/digests" >&2 || echo "speed.sh: cannot compare the replies" >&2
     exit 1
 fi
 "$folder/beside" "${flags[@]}"

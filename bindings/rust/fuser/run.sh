@@ -27,9 +27,9 @@ if [ $# -gt 2 ] || { [ $# != 0 ] && [ "$1" != --get ]; }; then
     echo "Usage: bindings/rust/fuser/run.sh [--get [SUITE]]" >&2
     exit 2
 fi
-need_root "It mounts"
-need cargo "Install it: apt-get install cargo."
-need python3 "Install it: apt-get install python3."
+need_root "mounting requires root"
+need cargo "To install it: apt-get install cargo"
+need python3 "To install it: apt-get install python3"
 mkdir -p "$built"
 built=$(cd "$built" && pwd)
 crates=$built/crates/usr/share/cargo/registry

@@ -54,12 +54,12 @@ if [ "${1:-}" = --keep ]; then
     keep=yes
     shift
 fi
-need_root "It mounts, and makes a Debian"
+need_root "mounting requires root"
 if [ ! -e /dev/fuse ]; then
     echo "It takes /dev/fuse." >&2
     exit 2
 fi
-need git "Install it: apt-get install git."
+need git "To install it: apt-get install git"
 need apt-get "The Debian is made of packages."
 
 # Makes it, with the toolchain's folder to be mounted on; the file beside it says that it is whole.

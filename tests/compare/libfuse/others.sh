@@ -113,7 +113,7 @@ usage() {
 }
 
 if [ $# != 3 ] || ! [[ $3 =~ ^(portal|rofiles|nbdfuse|raw|qcow2|bindfs|overlay)$ ]]; then usage; fi
-need_root "It mounts"
+need_root "mounting requires root"
 if [ -z "${OWN_MOUNTS:-}" ]; then
     OWN_MOUNTS=yes exec unshare -m -p -f --propagation private "$0" "$@"
 fi

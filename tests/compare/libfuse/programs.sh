@@ -29,7 +29,7 @@ if [ "${1:-}" = --suite ]; then
     shift 2
 fi
 [ $# = 3 ] || usage
-need_root "It mounts"
+need_root "mounting requires root"
 own_mounts "${given[@]}"
 here=$(cd "$(dirname "$0")/../../.." && pwd)
 list=$here/tests/compare/libfuse/programs.txt

@@ -67,7 +67,7 @@ get_cpython() {
 # Built as its authors left it; its checks run in other folders, with the environment that `make check` has.
 get_coreutils() {
     local built
-    need make "Install it: apt-get install make."
+    need make "To install it: apt-get install make"
     have libacl1-dev libattr1-dev acl attr
     sources coreutils
     rm -rf "$there/coreutils"

@@ -119,8 +119,8 @@ while [ $# -gt 0 ]; do
             ;;
     esac
 done
-need rustc "Install a Rust compiler: apt-get install rustc."
-need python3 "Install it: apt-get install python3."
+need rustc "To install it: apt-get install rustc"
+need python3 "To install it: apt-get install python3"
 
 [ -n "$given" ] || fetch
 source=${given:-$out/source}
