@@ -1,11 +1,11 @@
-/* A passthrough: a folder of the host as a file system over the codec of nizwarf.h, for the
- * transports of transport.h.
+/* A passthrough: a directory of the host as a file system over the codec of nizwarf.h, for the transports of
+ * transport.h.
  *
- * No path is walked: each name is looked up in a directory that is open, and no symbolic link is
- * followed. Whatever a client asks stays below the folder, and what it makes up is an error. Only
- * files and directories are opened, so that no pipe or device is, which waits or does something; a
- * pipe that takes the name of a file meanwhile may be opened for a moment, without waiting.
- * Where root serves, files are made with the ids of who asks. */
+ * The server resolves no path: it looks up each name in an open directory, and follows no symbolic link. So a
+ * client reaches only files below the shared directory, and numbers that it invented are an error. The server
+ * opens only files and directories, because opening a pipe or a device may block or have side effects. A pipe that
+ * takes the name of a file meanwhile may be opened for a moment, without blocking. If the server runs as root,
+ * files are created with the ids of the caller. */
 #ifndef PASSTHROUGH_H
 #define PASSTHROUGH_H
 
@@ -15,83 +15,86 @@
 #include "passthrough_xattrmap.h"
 #include "transport.h"
 
-/* What the client may remember. */
+/* What the client may cache. */
 enum passthrough_cache {
 	/* Nothing. */
 	CACHE_NEVER,
-	/* Names and attributes for a second; what was read until a file is opened again. */
+	/* Names and attributes for a second, and data until a file is opened again. */
 	CACHE_AUTO,
-	/* All of it for a day. */
+	/* Names, attributes and data for a day. */
 	CACHE_ALWAYS,
-	/* Names, attributes and directories for a day, and no data. */
+	/* Names, attributes and directories for a day, but no data. */
 	CACHE_METADATA,
 };
 
 enum migration_mode {
-	/* By paths below the folder. */
+	/* Files are found by their paths below the directory. */
 	MIGRATES_BY_PATHS,
-	/* By handles of their file system. */
+	/* Files are found by handles of their file system. */
 	MIGRATES_BY_HANDLES,
 };
 
-/* A time that isn't said. */
+/* The time is not set, so it depends on the cache policy. */
 #define AS_CACHE_SAYS UINT64_MAX
 
 struct passthrough_options {
 	enum passthrough_cache cache;
-	/* For how many milliseconds names and attributes are remembered, and that there is no such name. */
+	/* In milliseconds: how long the client may cache names, attributes, and that a name does not exist. */
 	uint64_t entry_time, attr_time, negative_time;
-	/* The client may write later what it was given to write. */
+	/* The client may have a writeback cache. */
 	bool writeback;
-	/* Extended attributes are served. With access control lists, which a client must have, the client's kernel goes
-	 * by these, and the host's makes files by those of their directory, or else with the client's umask. */
+	/* Extended attributes are served. With access control lists, which the client must support, the client's
+	 * kernel enforces them, and the host creates files with the lists of their directory, or else with the
+	 * client's umask. */
 	bool xattr, posix_acl;
-	/* Under which names attributes are on the host; NULL: their own. And the name of a file's capabilities there,
-	 * which the server takes away when the file is changed; NULL: the host does. */
+	/* The rules for names of attributes on the host; NULL: names are the same. And the name of file
+	 * capabilities there, which the server removes when the file is changed; NULL: the host removes them. */
 	const struct xattr_map *xattr_map;
 	const char *capability;
-	/* The client, which must be able to, says with which attribute a file is made. */
+	/* The client, which must support that, sends the security label of a new file. */
 	bool security_label;
-	/* The server takes set-user-ID bits away, and not the client. */
+	/* The server clears set-ID bits, and not the client. */
 	bool kills_bits;
-	/* Files may be mapped that are opened for requests alone; O_DIRECT is the host's too. */
+	/* allow_mmap: files that are opened without a cache can be mapped; allow_direct: O_DIRECT applies to the
+	 * host's file too. */
 	bool allow_mmap, allow_direct;
-	/* O_NOATIME is refused where the server may not have it. */
+	/* O_NOATIME is refused if the server may not use it. */
 	bool keeps_noatime;
-	/* The client's users and groups. */
+	/* The translation of the client's user and group ids. */
 	struct ids users, groups;
-	/* Locks of flock(2), and of fcntl(2), are the host's; else they are the client's alone. */
+	/* Locks of flock(2), and of fcntl(2), are taken on the host; otherwise they are local to the client. */
 	bool flock, posix_lock;
-	/* The client reads and writes files by itself, which a process names that this socket leads to, and that is closed
-	 * with it (fuse_backing_start). */
+	/* The client's kernel reads and writes files itself. `backing` is a socket to the process that registers
+	 * the files, which ends when it is closed (fuse_backing_start). */
 	bool passthrough;
 	int backing;
-	/* How another server finds the files of a machine that migrates to it, and what it does of those that aren't
-	 * found. With `verifies` a path must lead to the very file of before. With `takes_unlinked` a handle may open a file
-	 * that has no name any more, and of which nothing shows that it was in the folder. */
+	/* How another server finds the files of a machine that migrates to it, and whether files that are not
+	 * found are errors for the guest. With `verifies` a path must lead to the same file as before. With
+	 * `takes_unlinked` a handle may open a file without a name, although nothing shows that it was in the
+	 * directory. */
 	enum migration_mode migration_mode;
 	bool verifies, loses_files, takes_unlinked;
-	/* Where what others change is told, for passthrough_watch(); NULL: nowhere. */
+	/* Where passthrough_watch() reports changes that others make; NULL: it does not. */
 	transport_notices *notices;
-	/* What would change something is EROFS. */
+	/* Changes fail with EROFS. */
 	bool read_only;
 	/* Directories are listed with attributes. */
 	bool readdirplus;
-	/* A directory on which something else is mounted is told to be one, if the client takes that. */
+	/* A directory on which something else is mounted is announced as a submount, if the client supports that. */
 	bool announce_submounts;
-	/* When files are held by handles where they can be, and not by descriptors. */
+	/* When files are held by handles instead of descriptors. */
 	enum file_handles file_handles;
-	/* No device can be opened in the file system of the folder: a file may be opened by its name, which
-	 * takes less, and is looked at then. */
+	/* No device can be opened in the file system of the directory, so that a file may be opened by its name,
+	 * which is faster, and checked afterwards. */
 	bool no_devices;
-	/* The namespace of users lets no one change groups. */
+	/* Nobody may change supplementary groups in this user namespace. */
 	bool keeps_groups;
-	/* The capabilities that root's workers have besides, and those that they lack, by bits. */
+	/* The capabilities that root's workers have in addition, and those that they lack, as bits. */
 	uint64_t more_capabilities, fewer_capabilities;
 	unsigned workers;
-	/* How many files the client may know of at once, the folder among them. */
+	/* How many files the client may know at once, including the shared directory. */
 	unsigned most_nodes;
-	/* How many descriptors the transport has, and the rest of the process. */
+	/* How many descriptors the transport and the rest of the process use. */
 	unsigned other_descriptors;
 	/* The largest payload of a request or a reply. */
 	uint32_t payload;
@@ -99,20 +102,21 @@ struct passthrough_options {
 
 struct passthrough;
 
-/* A passthrough of the folder that `root` is a descriptor of, which may be made with O_PATH, and is
- * closed with it. `proc` is one of /proc/self/fd, and stays the caller's; the process must have
- * that as its working directory while it serves, and a umask of 0. NULL: errno says why. */
+/* Creates a passthrough of the directory of the descriptor `root`, which may be opened with O_PATH, and which the
+ * passthrough closes. `proc` is a descriptor of /proc/self/fd, which the caller must keep open. While serving, the
+ * process must have `proc` as its working directory, and a umask of 0. Returns NULL with errno on error. */
 struct passthrough *passthrough_new(int root, int proc, const struct passthrough_options *options);
 void passthrough_end(struct passthrough *all);
 
-/* Watches the files that the client knows, which are not held by handles, if there are notices. 0, or -1 with errno. */
+/* Watches the files that the client knows, except those that have handles, if `notices` is set. Returns 0, or -1
+ * with errno. */
 int passthrough_watch(struct passthrough *all);
 
-/* Leaves the calling thread, if it is root, the capabilities alone that a worker has. 0, or -1 with
- * errno: EPERM, if it hasn't one that it is to have besides. */
+/* If the calling thread runs as root, reduces its capabilities to those of a worker. Returns 0, or -1 with errno:
+ * EPERM, if a capability that it should have in addition is missing. */
 int passthrough_limit(const struct passthrough_options *options);
 
-/* The functions of a transport, whose `user` is the passthrough. */
+/* The functions of a transport, whose `user` must be the passthrough. */
 int passthrough_begin(void *user, unsigned worker);
 void passthrough_finish(void *user, unsigned worker);
 void passthrough_parted(void *user);

@@ -1,26 +1,27 @@
-/* Files that a client's kernel reads and writes by itself while it has them open: Linux calls that passthrough. */
+/* Files that a client's kernel reads and writes itself while they are open, which Linux calls passthrough. */
 #ifndef PASSTHROUGH_BACKING_H
 #define PASSTHROUGH_BACKING_H
 
 #include <stdint.h>
 
 struct call;
-/* How a client has one file open. */
+/* An open file that the client's kernel may access. */
 struct backing;
 struct backings;
 
-/* `socket` leads to the process that names files, and is closed with it. NULL: there is no memory. */
+/* `socket` is connected to the process that registers files, and is closed by backings_free(). Returns NULL if out
+ * of memory. */
 struct backings *backings_new(int socket);
 void backings_free(struct backings *all);
 
-/* An open more of a node, by this descriptor, of a client that agreed on passthrough: 0, or an error. NULL in `*taken`:
- * the client agreed on none. */
+/* Registers another open of a node, by this descriptor, if the client negotiated passthrough. Returns 0 or an
+ * error. `*taken` is NULL if the client did not. */
 int backing_take(const struct call *call, uint64_t node, int fd, struct backing **taken);
-/* One less; NULL: nothing. */
+/* Unregisters an open. `backing` may be NULL. */
 void backing_put(struct backing *backing);
 
-/* Tells in an answer how its file is opened, of which `fd` is a descriptor. Whether the client's kernel has it by
- * itself: the flags of the answer are those of this, then. */
+/* Fills in how the file of an OPEN, of which `fd` is a descriptor, is opened. Returns whether the client's kernel
+ * accesses it itself; then the flags of the answer are set too. */
 int backing_tell(const struct call *call, const struct backing *backing, int fd);
 
 #endif

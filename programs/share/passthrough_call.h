@@ -1,4 +1,4 @@
-/* A call of a passthrough, for its own sources. */
+/* A call of a passthrough: shared by its source files only. */
 #ifndef PASSTHROUGH_CALL_H
 #define PASSTHROUGH_CALL_H
 
@@ -10,30 +10,30 @@
 #include "passthrough_nodes.h"
 #include "passthrough_numbers.h"
 
-/* The header of a reply, before the data of a READ, and the longest value of an attribute. */
+/* The sizes of a reply's header and of the longest extended attribute. */
 enum { HEADER = 16, LONGEST_VALUE = 65536 };
-/* What is asked of a file. */
+/* The statx(2) mask of all files. */
 enum { WANTED = STATX_BASIC_STATS | STATX_MNT_ID };
-/* For how many milliseconds a client remembers for a short time. */
+/* In milliseconds: the time that a client may cache something for a short time. */
 enum { SHORT_TIME = 1000 };
 
-/* What a worker uses again from one call to the next. */
+/* The memory that a worker reuses from call to call. */
 struct worker {
 	nizwarf_scratch slot;
-	/* Whether it is root, its capabilities, by bits, and its group; and whether it has its other
-	 * groups for good. */
+	/* Whether it runs as root, its capabilities as bits, and its group; and whether it cannot change its
+	 * supplementary groups. */
 	bool is_root, keeps_groups;
 	uint64_t capabilities;
 	gid_t gid;
-	/* The last name that was looked up is of a file that wasn't known. */
+	/* The last name that was looked up led to an unknown file. */
 	bool expects_new;
-	/* A text, as that of a symbolic link. */
+	/* A text, such as the target of a symbolic link. */
 	char text[LONGEST_VALUE + 1];
-	/* Those of an INIT that is answered. */
+	/* The parameters of the INIT that is being answered. */
 	nizwarf_init_params init_params;
 	nizwarf_dirent *items;
 	size_t items_size;
-	/* How many items have entries, from the first one on. */
+	/* The number of items, from the first one on, that have entries. */
 	size_t entries;
 	char *names;
 	size_t names_size;
@@ -43,42 +43,44 @@ struct worker {
 
 struct passthrough {
 	struct passthrough_options options;
-	/* The rows that are offered. */
+	/* The enabled features. */
 	uint32_t offers;
 	struct nodes nodes;
 	struct numbers *numbers;
-	/* NULL: locks are the client's. */
+	/* NULL: locks are local to the client. */
 	struct locks *locks;
 	/* NULL: files are read and written by requests. */
 	struct backings *backings;
-	/* The options that are agreed on with the client. The lock is held by who changes them. */
+	/* The options of INIT that were negotiated with the client. The lock must be held to change them. */
 	atomic_ullong agreed;
 	pthread_mutex_t agreeing;
-	/* How many threads close what such had. */
+	/* The number of threads that close files of disconnected clients. */
 	atomic_uint closing;
-	/* It was said that the client lacks what it must have. */
+	/* The message that the client lacks a required option was printed. */
 	atomic_bool lacks_option;
-	/* How many handles of states opened no file of the folder, up to a limit. The transport's own thread alone uses it. */
+	/* The number of handles of loaded states that opened no file of the directory, up to a limit. Only the
+	 * transport's own thread uses it. */
 	unsigned strays;
-	/* For how many milliseconds it may remember names and attributes, and those of regular files. */
+	/* In milliseconds: the times that the client may cache names, attributes, and attributes of regular files. */
 	uint64_t entry_time, attr_time, file_time;
-	/* The device of the folder, if its file system is a local one: ext4, xfs, btrfs or tmpfs. */
+	/* The device of the shared directory, if its file system is local: ext4, xfs, btrfs or tmpfs. */
 	bool is_local;
 	uint64_t local_device;
-	/* How many file systems may be over one another, of which files the client has by itself, with the mount. */
+	/* The limit of stacked file systems, including the mount, for files that the client's kernel accesses
+	 * itself. */
 	uint32_t stack_depth;
 	struct worker *worker[TRANSPORT_MOST_WORKERS];
 };
 
-/* A call, with what it is of. */
+/* A call and its objects. */
 struct call {
 	struct passthrough *all;
 	struct worker *worker;
-	/* Which client asks, by `nodes.clients`. */
+	/* The client of the request, as in `nodes.clients`. */
 	unsigned client;
 	const nizwarf_call *asked;
 	const uint8_t *request;
-	/* The data of a WRITE, or the room for those of a READ: they are changed. */
+	/* The data of a WRITE, or the reply buffer of a READ. They are modified. */
 	struct iovec *data;
 	size_t pieces;
 	struct grip node, other;
@@ -86,98 +88,100 @@ struct call {
 	nizwarf_answer *answer;
 };
 
-/* Whether the client that asks is still there. */
+/* Returns whether the client of the request is still connected. */
 static inline bool is_there(const struct call *call)
 {
 	return is_client(&call->all->nodes, call->client);
 }
 
-/* The options that are wanted of those that a client offers. */
+/* Returns the INIT options that this server wants. */
 uint64_t wanted(const struct passthrough *all);
-/* Why a client may not be served that offers these options, or agreed on them: NULL, or a message. INIT and the state of a
- * machine that migrates are both compared by this, so that neither lets in whom the other refuses. */
+/* Returns NULL, or why a client with these options must not be served. It decides for both INIT and the state of a
+ * machine that migrates, so that neither accepts a client that the other one refuses. */
 const char *lacking_option(const struct passthrough *all, uint64_t options);
-/* Makes a call: 0, or an error. */
+/* Makes a call. Returns 0 or an error. */
 int make_call(struct call *call);
 
-/* 0 for what isn't below 0, or else the error of errno. */
+/* Returns 0 if `result` is not negative, and errno otherwise. */
 int failed(int result);
-/* A buffer of at least that many bytes: `buffer` is where a pointer to it is. False: there is no
- * memory. */
+/* Grows a buffer to at least `wanted` bytes; `buffer` points to a pointer to it. Returns false if out of memory. */
 bool grow(void *buffer, size_t *size, size_t wanted);
-/* Whether a node is on the local file system of the folder. */
+/* Returns whether a node is on the directory's own, local file system. */
 bool is_local(const struct call *call);
-/* A name of the request, after which a byte 0 is. */
+/* Returns a name of the request, which ends with a 0. */
 const char *name_of(const struct call *call, nizwarf_range range);
-/* Whether a name is that of something in a directory. */
+/* Returns whether a name can be that of a directory entry. */
 bool is_plain(const char *name);
-/* Answers a node, which has a lookup more. */
+/* Fills in the entry of a node whose lookup count was incremented. */
 void tell_entry(const struct call *call, uint64_t number, const struct statx *seen, nizwarf_entry *entry);
-/* For how many milliseconds a name in a directory may be remembered, if it is that many where all names are. */
+/* Returns the time in milliseconds that a name in this directory may be cached, where `time` is the configured
+ * time. */
 uint64_t name_time(const struct call *call, const struct node *directory, uint64_t time);
-/* Tells attributes, and how long they hold. `is_apart` is that of the node. */
+/* Fills in attributes and their cache time. `is_apart` is that of the node. */
 void tell_attr(const struct call *call, const struct statx *seen, bool is_apart, nizwarf_entry *entry);
-/* The inode number that is told. */
+/* Returns the inode number that the client sees. */
 uint64_t inode_of(const struct call *call, uint64_t device, uint64_t inode, bool is_apart);
-/* What a descriptor is of: 0, or -1 with errno. */
+/* Calls statx(2) for a descriptor. Returns 0, or -1 with errno. */
 int look_at(int fd, struct statx *seen);
-/* The entry of a file that was found so, opened with O_PATH and looked at, or of the name: a node was reserved, which
- * it is, or is given back. `*is_new`, if there is one, becomes true if the file wasn't known, or by a handle
- * alone. 0, or an error. */
+/* Fills in the entry of a file. enter() gets the file opened with O_PATH, and its attributes; enter_name() opens
+ * it. The caller must have reserved a node, which is used or released. `*is_new`, unless `is_new` is NULL, becomes
+ * true if the file was not known, or has a handle. They return 0 or an error. */
 int enter(const struct call *call, const struct found *found, int fd, const struct statx *seen,
 	  nizwarf_entry *entry, bool *is_new);
 int enter_name(const struct call *call, const struct found *found, nizwarf_entry *entry, bool *is_new);
-/* The entry of a name: 0, or an error. */
+/* Looks up a name and fills in its entry. Returns 0 or an error. */
 int look_up(const struct call *call, const struct found *found, nizwarf_entry *entry);
-/* The same, quicker if it isn't known: `*is_new`, as above. */
+/* The same, but faster for unknown files. `*is_new` is as above. */
 int look_up_new(const struct call *call, const struct found *found, nizwarf_entry *entry, bool *is_new);
-/* A name in a node that is in hand. */
+/* Combines a referenced directory and a name. */
 struct found found_in(const struct grip *directory, const char *name);
 
-/* LOOKUP, where that there is no such name may be remembered; SYMLINK, MKNOD and MKDIR; LINK; RENAME. */
+/* LOOKUP, which may let the client cache that a name does not exist; SYMLINK, MKNOD and MKDIR; LINK; RENAME. */
 int find_name(const struct call *call, const char *name);
 int make_node(const struct call *call);
 int link_node(const struct call *call);
 int rename_node(const struct call *call);
-/* Takes back a name that was made of a file, unless it leads to another one by now. Returns the error of the call, or EIO
- * if the name stays. */
+/* Removes a name that was created for a file, unless it leads to another file by now. Returns the error of the call, or
+ * EIO if the name remains. */
 int unmake_of(int directory, const char *name, int fd, int error);
 
-/* Leaves the thread of a worker the capabilities that it needs, if it is root, and makes it ready for become(): 0,
- * or -1 with errno. */
+/* Reduces the capabilities of a worker's thread to those that it needs, if it runs as root, and prepares it for
+ * become(). Returns 0, or -1 with errno. */
 int begin_worker(struct worker *w, const struct passthrough_options *options);
-/* From now on this thread makes files as who asks, with the umask of that if it counts here: 0, or an error.
- * Then it is root again. */
+/* become() lets this thread create files as the caller of the request, with that caller's umask if it applies, and
+ * returns 0 or an error. become_root() undoes it. */
 int become(const struct call *call);
 void become_root(const struct call *call);
-/* Whether a SETATTR sets nothing. Linux sends it before somebody changes a file's data who may not keep its set-ID bits, if
- * the server takes them away; and for a chown(2) that changes neither owner nor group, which takes them away too. */
+/* Returns whether a SETATTR sets nothing. If the server clears set-ID bits, Linux sends such a request before a
+ * user without the privilege to keep them changes a file's data; and for a chown(2) that changes neither owner nor
+ * group. */
 bool sets_nothing(const nizwarf_call *asked);
-/* Between the two the host takes set-user-ID and set-group-ID bits away, if that is asked for, as it
- * does for who lacks CAP_FSETID and isn't of the file's group. */
+/* Between these two calls the host clears set-user-ID and set-group-ID bits if the request wants that, as for a
+ * process that lacks CAP_FSETID and is not in the file's group. */
 void lose_fsetid(const struct call *call);
 void regain_fsetid(const struct call *call);
 
-/* Whether the client writes later. */
+/* Returns whether the client has a writeback cache. */
 bool writes_later(const struct call *call);
-/* Whether a call is of an open file; and makes one, whose file is in hand: 0, or an error. */
+/* Whether a call is about an open file; and makes such a call, with a reference to the file. It returns 0 or an
+ * error. */
 bool wants_file(const nizwarf_call *asked);
 int make_of_file(const struct call *call);
 
-/* Takes away the capabilities of a file, of which a descriptor is open, before it is changed, where the host has them
- * under a name that it doesn't know. 0, or an error. */
+/* Removes the capabilities of a file before it is changed, if --xattrmap gives them another name on the host,
+ * because the host does not remove them then. `fd` is a descriptor of the file. Returns 0 or an error. */
 int lose_capability(const struct call *call, int fd);
-/* Gives a file that was just made the attribute that its client said: 0, or an error. */
+/* Sets the security label that the client sent for a file that was just created. Returns 0 or an error. */
 int label(const struct call *call, int fd);
-/* The same of a name that was just made. */
+/* The same for a name that was just created. */
 int label_name(const struct call *call, int directory, const char *name);
-/* Whether the client says with which attribute files are made, and did so. */
+/* Returns whether the client sent a security label for a new file. */
 static inline bool has_label(const struct call *call)
 {
 	return call->all->options.security_label && call->asked->has & NIZWARF_HAS_CONTEXT;
 }
 
-/* READDIR and READDIRPLUS, and the calls of extended attributes: 0, or an error. */
+/* READDIR and READDIRPLUS, and the calls of extended attributes. They return 0 or an error. */
 int read_directory(const struct call *call);
 int set_xattr(const struct call *call);
 int get_xattr(const struct call *call);

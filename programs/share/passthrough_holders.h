@@ -1,4 +1,4 @@
-/* Who holds locks, for passthrough_locks.c: what the host has granted to each owner of a client, and the calls of the host that
+/* The locks of a client by owner, for passthrough_locks.c: what the host has granted, and the system calls that
  * lock and unlock without waiting. */
 #ifndef PASSTHROUGH_HOLDERS_H
 #define PASSTHROUGH_HOLDERS_H
@@ -6,30 +6,30 @@
 #include <signal.h>
 #include "passthrough_call.h"
 
-/* MOST_RANGES bounds the memory that a client's locks take, here and in the host's kernel. */
+/* MOST_RANGES limits the memory of a client's locks, here and in the host's kernel. */
 enum { CHAINS = 256, MOST_RANGES = 1000000 };
 
-/* Bytes that an owner has locked, from the first one to the last one. */
+/* A locked range of bytes, including the last one. */
 struct range {
 	uint64_t first, last;
 	uint32_t type;
 };
 
-/* The locks of fcntl(2) of one owner in one file. It is in the table as long as a call uses it, or something is
- * granted. */
+/* The fcntl(2) locks of one owner in one file. It is in the table as long as a call uses it, or a lock is granted. */
 struct holder {
 	uint64_t node, owner;
-	/* It keeps its number, also where the file is opened again for writing. */
+	/* It keeps its number even if the file is opened again for writing. */
 	int fd;
-	/* Held while the host locks or unlocks without waiting, until the result is noted. `is_writable` is guarded by it;
-	 * `ranges`, `count` and `size` change only while both it and the lock of the table are held. */
+	/* Locked while the host locks or unlocks without waiting, until the result is noted. It protects
+	 * `is_writable`; `ranges`, `count` and `size` may be changed only while both it and the lock of the table
+	 * are held. */
 	pthread_mutex_t turn;
 	bool is_writable;
-	/* What the host has granted. There is memory for two more ranges for each user that locks or unlocks. */
+	/* The granted locks. There is memory for two more ranges for each user that locks or unlocks. */
 	struct range *ranges;
 	size_t count, size;
-	/* The calls that use it; whether it is in the table; which open file and which process of the client locked last:
-	 * under the lock. */
+	/* The number of calls that use it; whether it is in the table; the open file and the process of the client
+	 * that locked last. They are protected by the lock. */
 	unsigned users;
 	bool is_listed;
 	uint64_t handle;
@@ -37,7 +37,7 @@ struct holder {
 	struct holder *next;
 };
 
-/* A request that waits for a lock: of a holder, or by flock(2) of an open file. */
+/* A request that waits for a lock: a fcntl(2) lock of a holder, or a flock(2) lock of an open file. */
 struct waiter {
 	struct locks *of;
 	struct holder *holder;
@@ -45,9 +45,9 @@ struct waiter {
 	nizwarf_call asked;
 	transport_later *later;
 	pthread_t thread;
-	/* The error that ends the waiting; 0: none does yet. */
+	/* The error that ends the wait; 0: it continues. */
 	atomic_int stop;
-	/* The search for a deadlock came here; and which waiter it goes on with. */
+	/* The search for a deadlock has reached this waiter; and the waiter that it visits next. */
 	bool is_reached;
 	struct waiter *reached_next;
 	struct waiter *next, **at;
@@ -57,53 +57,55 @@ struct locks {
 	struct nodes *nodes;
 	pthread_mutex_t lock;
 	struct holder *chains[CHAINS];
-	/* How many ranges all holders have. */
+	/* The number of ranges of all holders. */
 	size_t ranges;
 	struct waiter *waiters;
-	/* How many threads wait, or have not ended. */
+	/* The number of threads that wait, or have not ended yet. */
 	unsigned waiting;
-	/* Of requests that don't wait, or not yet. */
+	/* For requests that do not wait, or not yet. */
 	nizwarf_interrupts early;
 	pthread_mutex_t replying;
 	nizwarf_scratch slot;
 };
 
-/* The signal that ends a waiting. (SIGRTMIN is the transports'.) */
+/* The signal that ends a wait. (The transports use SIGRTMIN.) */
 static inline int kick_signal(void)
 {
 	return SIGRTMIN + 1;
 }
 
-/* All holders of a file are in this chain. The lock is held by who follows it. */
+/* Returns the chain that contains all holders of a file. The lock must be held while the chain is used. */
 struct holder **chain_of(struct locks *all, uint64_t node);
-/* The holder of the owner of this call, with the caller as a user, which puts it. If there is none and `makes` is set,
- * one is made. NULL: there is none, and none can be made. */
+/* Returns the holder of this call's owner, which the caller must put. If there is none and `makes` is set, one is
+ * created. Returns NULL if there is none, or none can be created. */
 struct holder *holder_take(const struct call *call, bool makes);
-/* A call uses the holder no longer. If no other one does and nothing is granted, the descriptor is closed. */
+/* Ends the use of a holder. If it is the last one and no lock is granted, the descriptor is closed. */
 void holder_put(struct locks *all, struct holder *h);
-/* Makes memory for what the calling user changes, which locks or unlocks. False: out of memory, or there are as many locks
- * as may be. */
+/* Allocates the memory that the calling user needs to lock or unlock. Returns false if out of memory, or at the
+ * limit of ranges. */
 bool holder_reserve(struct locks *all, struct holder *h, const nizwarf_lock *lock);
-/* Gives up all locks of a holder, and puts it. */
+/* Unlocks all ranges of a holder, and puts it. */
 void holder_drop(struct locks *all, struct holder *h);
 
-/* Whether two ranges have a byte in common. */
+/* Returns whether two ranges have a byte in common. */
 bool ranges_meet(const struct range *a, const struct range *b);
-/* The bytes of a lock; and a range as the host has it, and the other way round. */
+/* Convert a lock to a range, and a range to and from the host's struct. */
 struct range range_of(const nizwarf_lock *lock);
 struct flock to_host(const struct range *range);
 struct range from_host(const struct flock *host);
 
-/* Calls the host: 0, or an error. EAGAIN: the lock isn't free. EINTR: a signal came while it waited. */
+/* Lock or unlock on the host. Return 0 or an error: EAGAIN if the lock is not free, EINTR if a signal arrived
+ * during the wait. */
 int lock_host(int fd, const struct range *range, bool waits);
 int flock_host(const struct open_file *file, uint32_t type, bool waits);
-/* Locks or unlocks by fcntl(2) without waiting, and notes that: 0, or an error. There is memory for it (holder_reserve).
- * ENOLCK: the client has gone or began anew. */
+/* Locks or unlocks by fcntl(2) without waiting, and notes the result. The caller must have called
+ * holder_reserve(). Returns 0 or an error: ENOLCK if the client has disconnected or sent INIT again. */
 int try_range(struct locks *all, struct holder *h, const nizwarf_lock *lock);
 /* The same by flock(2). */
 int try_flock(struct open_file *file, uint64_t owner, uint32_t type);
-/* Gives up a lock of flock(2) that the owner of this call has by another open file. Linux has the same owner for two open
- * files only if the first one is closed, but its RELEASE, which is not waited for, is not served yet. Whether there was one. */
+/* Releases a flock(2) lock that this call's owner has by another open file, and returns whether there was one.
+ * Linux uses the same owner for two open files only if the first one is closed but its RELEASE, for which it does
+ * not wait, is not served yet. */
 bool unlock_closed(const struct call *call);
 
 #endif

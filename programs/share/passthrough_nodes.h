@@ -1,11 +1,10 @@
-/* What a passthrough holds for its client: nodes, with counts of lookups, and open files, both by
- * number. A number that was made up, or whose thing went, is none: so a client may say what it
- * likes.
+/* The state that a passthrough keeps for its client: nodes with their lookup counts, and open files, both
+ * identified by numbers. A client may send any number: one that was invented, or whose node or file has gone, is
+ * not found.
  *
- * A node is a file of the host, by device, inode and mount, and is held by a descriptor made with
- * O_PATH, which opens nothing; or, if handles are wanted, by a handle
- * of the host's file system where there is one, and is opened for each call then. Any number of
- * threads may call at once. */
+ * A node is a file of the host, identified by device, inode and mount. It keeps a descriptor opened with O_PATH,
+ * which does not open the file itself. If file handles are enabled and the host's file system supports them, it
+ * keeps a handle instead, and each call opens the file. All functions are thread-safe. */
 #ifndef PASSTHROUGH_NODES_H
 #define PASSTHROUGH_NODES_H
 
@@ -20,7 +19,7 @@ enum { ROOT_NODE = 1 };
 enum file_handles {
 	HANDLES_NEVER,
 	HANDLES_PREFERRED,
-	/* What has none is not served. */
+	/* Files without a handle are not served. */
 	HANDLES_ALONE,
 };
 
@@ -29,62 +28,62 @@ struct nodes;
 struct watch;
 struct watched;
 
-/* What a number leads to, before the fields of its kind. `users` are the table, and each call that
- * has it in hand. `fd` changes for a node alone: node_keep(). */
+/* The common beginning of a node and of an open file. `users` counts the references of the table and of the calls
+ * that use it. Only a node's `fd` changes (node_keep()). */
 struct counted {
 	atomic_uint users;
 	atomic_int fd;
 	uint64_t number;
 };
 
-/* A slot is a pointer; or, where it is free, an odd number: how many times it was used, above the next free
- * one. A slot that was used as often as may be is free and in no list. */
+/* A slot is a pointer or, if it is free, an odd number: its use count, above the index of the next free slot. A
+ * slot whose use count is exhausted is free and in no list. */
 struct table {
 	pthread_rwlock_t lock;
 	uint64_t *slots;
 	uint32_t size, used, first_free, count;
-	/* The largest upper half of another server's numbers, while things get such; and the upper half of the first number
-	 * of a new slot. */
+	/* The largest upper half of the numbers that were loaded from another server's state; and the upper half
+	 * of the first number of a new slot. */
 	uint32_t most_uses, beginning;
 };
 
-/* A device of the host in one of its mounts: it is there as long as a node of it is. `users` reaches 0 under
- * the lock alone. */
+/* A device of the host in one of its mounts. It exists as long as a node refers to it. `users` reaches 0 only
+ * under the lock. */
 struct host_mount {
 	struct nodes *of;
 	uint64_t device, id;
 	atomic_uint users;
-	/* How many nodes have a handle, and what handles are opened by, which is there as long as one has: under
-	 * the lock. */
+	/* The number of nodes with a handle, and the descriptor by which handles are opened, which is open while
+	 * that number is not 0. Both are protected by the lock. */
 	uint32_t handles;
 	int fd;
 	struct host_mount *next;
 };
 
-/* A client may have a million of them: what isn't needed is not kept, and what is differs in length. */
+/* A client may have millions of nodes, so a node contains only what is needed, and its size varies. */
 struct node {
-	/* `fd` is -1 where there is a handle, but for a node that node_keep() keeps. */
+	/* `fd` is -1 if the node has a handle, unless node_keep() keeps the file open. */
 	struct counted counted;
 	atomic_ullong lookups;
 	uint64_t inode;
 	struct host_mount *on;
-	/* The next one in its chain. */
+	/* The next node of the hash chain. */
 	struct node *next;
-	/* NULL: nobody tells of what others change. */
+	/* NULL: the file is not watched. */
 	struct watched *watched;
-	/* Where it was found first, by the name that is kept; 0: none is. What was no longer there once is not
-	 * looked for again. */
+	/* The directory in which the file was first found, by the name that follows the handle; 0: unknown. Once
+	 * the file was not found there, the place is not tried again. */
 	uint64_t directory;
-	/* S_IFREG .., which a file keeps. */
+	/* The type, S_IFREG etc., which never changes. */
 	uint16_t type;
-	/* A directory whose names are read, and nothing else of its files. */
+	/* The client lists the names of this directory without looking up its files. */
 	atomic_bool lists_names;
 	atomic_bool is_elsewhere;
-	/* A file that is on another device or mount than its directory, and none itself. */
+	/* A file, not a directory, on another device or mount than its directory. */
 	bool is_apart;
-	/* How many bytes the handle has. */
+	/* The size of the handle in bytes. */
 	uint8_t handle_size;
-	/* The handle, if there is one, and the name after it. */
+	/* The handle, if there is one, followed by the name. */
 	_Alignas(uint32_t) char rest[];
 };
 
@@ -92,159 +91,160 @@ struct open_file {
 	struct counted counted;
 	struct nodes *of;
 	bool is_directory;
-	/* Of a file: whether its descriptor has O_APPEND, which stays so while that is written by. */
+	/* For a file: its descriptor has O_APPEND. It does not change while `writing` is locked. */
 	bool at_end;
-	/* And O_DIRECT, up to when something is written that this doesn't take. */
+	/* The descriptor has O_DIRECT. It is cleared when a write is not aligned for that. */
 	atomic_bool is_direct;
-	/* Is held for reading by who writes, and for writing by who changes either of the two. */
+	/* Locked for reading by a write, and for writing by a change of these flags. */
 	pthread_rwlock_t writing;
-	/* The node that it was opened of. */
+	/* The node of the file. */
 	uint64_t node;
-	/* NULL: the client was not told that it may have the file by itself. */
+	/* NULL: the client's kernel does not access the file itself. */
 	struct backing *backing;
-	/* Of a file: whether the client has a lock of flock(2) by it, and which lock owner it named last. They are changed under
-	 * the lock. */
+	/* For a file: the client has a flock(2) lock by this open file, and the lock owner that it sent last. They
+	 * change only under the lock. */
 	atomic_bool has_flock;
 	atomic_ullong flock_owner;
-	/* Of a directory, under the lock: what was read and not told yet, and the offset of that. */
+	/* For a directory, protected by the lock: entries that were read but not yet sent, and their offset. */
 	pthread_mutex_t lock;
 	char *buffer;
 	size_t at, end;
 	uint64_t offset;
-	/* The end was met after what was told last. */
+	/* The end of the directory follows the entries that were sent last. */
 	bool is_at_end;
-	/* The next one of those that go at once. */
+	/* The next open file of a list that is being closed. */
 	struct open_file *next;
 };
 
 struct nodes {
 	struct table nodes, files;
-	/* By device and inode, under the lock of `nodes`. */
+	/* Hash chains by device and inode, protected by the lock of `nodes`. */
 	struct node **chains;
 	uint32_t chain_count;
-	/* The descriptor of /proc/self/fd. */
+	/* A descriptor of /proc/self/fd. */
 	int proc;
-	/* How many descriptors are kept or reserved, of nodes, open files and mounts, and how many may be:
-	 * the others are for what a call opens and closes again, and for the transport. From how many on a
-	 * new node gets a handle. */
+	/* How many descriptors are open or reserved for nodes, open files and mounts, and their limit. The other
+	 * descriptors are for those that a call opens and closes, and for the transport. From
+	 * `handles_from` descriptors on, a new node gets a handle. */
 	atomic_uint kept;
 	unsigned most_kept, handles_from;
-	/* How many nodes there are or are reserved, and how many may be. */
+	/* How many nodes exist or are reserved, and their limit. */
 	atomic_uint places;
 	unsigned most_nodes;
 	atomic_flag said_most;
 	/* How many open directories have a buffer. */
 	atomic_uint buffers;
-	/* NULL: no file is watched. Those of this device are, where they can be; 0: none. */
+	/* NULL: files are not watched. Otherwise the files of this device are, if possible; 0: none. */
 	struct watch *watch;
 	uint64_t watched_device;
 	bool handles_alone;
-	/* The mount whose files may be opened by their names; 0: none. */
+	/* The mount whose files may be opened by name; 0: none. */
 	uint64_t named_mount;
 	pthread_mutex_t mounts_lock;
 	struct host_mount *mounts;
-	/* How many clients have gone. Who calls says how many had before that of its request came. (Each request reads it: it is
-	 * apart from what requests write.) */
+	/* How many clients have disconnected. A caller passes this number as of the time when its request arrived.
+	 * (Each request reads it, so it is apart from the fields that requests write.) */
 	atomic_uint clients;
 };
 
-/* A directory in which a file is found, with its node if that is known, and the name; NULL: it isn't known. */
+/* The directory in which a file was found, its node if that is known, and the name, or NULL if it is unknown. */
 struct found {
 	int directory;
 	const struct node *node;
 	const char *name;
 };
 
-/* A node in hand, with a descriptor of it. `own` is to be closed. */
+/* A reference to a node, with a descriptor of it. `own` must be closed. */
 struct grip {
 	struct node *node;
 	int fd, own;
 };
 
-/* -1: there is no memory. `root` is the node ROOT_NODE from then on, and is closed with it; it is one of the
- * `most` nodes that there may be. With `no_devices` none can be opened in its mount. `others` descriptors
- * are left for other things. */
+/* Returns -1 if out of memory. `root` becomes the node ROOT_NODE, which closes it, and counts toward `most`, the
+ * limit of nodes. With `no_devices`, no device can be opened in its mount. `others` descriptors are left for other
+ * uses. */
 int nodes_begin(struct nodes *all, int root, int proc, enum file_handles handles, bool no_devices,
 		unsigned most, unsigned others);
 void nodes_end(struct nodes *all);
-/* From now on files of this device are watched, which are held by descriptors; 0: none can be. It is to be ended after
- * the nodes. */
+/* Watches files of this device from now on, unless they have handles; 0: none. The watch must be freed after the
+ * nodes. */
 void nodes_watch(struct nodes *all, struct watch *watch, uint64_t device);
 
-/* Reserves descriptors that are to be kept, before they are opened: so a call that makes a name has
- * those of its answer. 0, or EMFILE. What takes a descriptor over takes its reservation too. */
+/* Reserves descriptors before they are opened, so that a call that creates a file can also open it. Returns 0 or
+ * EMFILE. A function that takes over a descriptor takes over its reservation too. */
 int fd_reserve(struct nodes *all, unsigned count);
 void fd_give_back(struct nodes *all, unsigned count);
-/* Closes a descriptor, and gives its reservation back. */
+/* Closes a descriptor and releases its reservation. */
 void fd_let_go(struct nodes *all, int fd);
-/* The same of a node that may be new, with its descriptor, before the file is made. 0, EMFILE, or ENFILE:
- * there are as many nodes as may be. */
+/* Reserves a node and its descriptor, before a file is created or looked up. Returns 0, EMFILE, or ENFILE at the
+ * limit of nodes. */
 int node_reserve(struct nodes *all);
 void node_give_back(struct nodes *all);
 
-/* Takes a node in hand. 0, or an error: ESTALE where there is none. */
+/* Gets a reference to a node. Returns 0, or ESTALE if the number is unknown, or another error. */
 int node_get(struct nodes *all, uint64_t number, struct grip *grip);
-/* The same, without a descriptor if it has a handle. */
+/* The same, but a node with a handle is not opened. */
 int node_hold(struct nodes *all, uint64_t number, struct grip *grip);
 void node_put(struct grip *grip);
 
-/* Opens the file of a node that is held by a handle, before its last name is removed, which `name` in `directory` is: a
- * handle does not open a file without a name, but a client may still have it open without an OPEN, as a FIFO or by a
- * descriptor made with O_PATH. Returns the node, which the caller must hand to node_kept() once it has tried to remove the
- * name; or NULL, where nothing is to be kept, or can be. */
+/* Opens the file of a node that has a handle, before the caller removes the file's last name, which is `name` in
+ * `directory`. A file without a name cannot be opened by its handle, but a client may still use it without an
+ * OPEN, as a FIFO or by a descriptor made with O_PATH. Returns the node, which the caller must pass to node_kept()
+ * after the removal; or NULL, if nothing must or can be kept open. */
 struct node *node_keep(struct nodes *all, int directory, const char *name);
-/* The file stays open as long as the client knows it, if its name was removed. `node` may be NULL. */
+/* Keeps the file open until the client forgets it, if its name was removed. `node` may be NULL. */
 void node_kept(struct nodes *all, struct node *node, bool is_removed);
 
-/* Whether a file of a directory with this inode may be known already. */
+/* Returns whether there is a node on the directory's device with this inode. */
 bool node_may_be_known(struct nodes *all, const struct node *directory, uint64_t inode);
 
-/* Whether a file is on another device or mount than a node. */
+/* Returns whether a file is on another device or mount than a node. */
 bool is_across(const struct node *node, const struct statx *seen);
 
-/* What a client that has gone is told of a node, or an open file: the number leads to nothing, and nothing was
- * entered. It gives nothing back either: all that it had went with it, and numbers may be another one's by then. */
+/* The number of a node or an open file for a client that has disconnected: it is not valid, and nothing was
+ * entered. The client needs not release it, because all that it had was released, and numbers may belong to the
+ * next client by then. */
 #define OF_NOBODY UINT64_MAX
 
-/* The number of a file that is known already, with a lookup more; 0 where it isn't. Nothing of it
- * is opened. */
+/* Returns the number of a file that is known, and increments its lookup count; or 0. It does not open the file. */
 uint64_t node_find(struct nodes *all, unsigned client, const struct statx *seen);
-/* The same of one that was opened with O_PATH, also if it is known by a handle. */
+/* The same for a file that was opened with O_PATH. It also finds a node that has a handle. */
 uint64_t node_find_opened(struct nodes *all, unsigned client, int fd, const struct statx *seen);
 
-/* The number of a file that is known, without a lookup more; 0 if it is not known. `fd` is a descriptor of it, which may
- * be made with O_PATH. */
+/* Returns the number of a file that is known, or 0. The lookup count does not change. `fd` is a descriptor of the
+ * file, which may be opened with O_PATH. */
 uint64_t node_number(struct nodes *all, int fd, const struct statx *seen);
 
-/* A lookup more of a node that is in hand. 0, or ESTALE: the client gave it back meanwhile. */
+/* Increments the lookup count of a referenced node. Returns 0, or ESTALE if the client forgot it meanwhile. */
 int node_look_up(struct nodes *all, unsigned client, struct node *node);
 
-/* Gives the number of a file, with a lookup more, which was opened with O_PATH: `fd`, and what was reserved
- * for a node, is the node's from then on, or given back. `*is_new`, if there is one, becomes true if it
- * wasn't known, or is known by a handle, which node_find() doesn't look for. 0, or an error. */
+/* Fills in the number of a file that was opened with O_PATH, and increments its lookup count. It takes over `fd`
+ * and a reserved node, also on error. `*is_new`, unless `is_new` is NULL, becomes true if node_find() would not
+ * have found the file: it was unknown, or has a handle. Returns 0 or an error. */
 int node_enter(struct nodes *all, unsigned client, const struct found *found, int fd,
 	       const struct statx *seen, uint64_t *number, bool *is_new);
 
-/* Gives lookups back. With the last one the node goes. */
+/* Decrements a lookup count. At 0 the node is removed. */
 void node_forget(struct nodes *all, unsigned client, uint64_t number, uint64_t count);
 
-/* Whether the client of a request is still there. What looks under a lock of the tables sees it go before they are
- * emptied. */
+/* Returns whether the client of a request is still connected. Under a lock of the tables this cannot change before
+ * they are emptied. */
 static inline bool is_client(const struct nodes *all, unsigned client)
 {
 	return client == atomic_load(&all->clients);
 }
 
-/* The client that is there now. The transport's own thread alone, by which they go, may ask so. */
+/* Returns the current client. Only the transport's own thread, which disconnects clients, may call it. */
 static inline unsigned client_now(const struct nodes *all)
 {
 	return atomic_load(&all->clients);
 }
 
-/* Lets go of all nodes but the root, and of all open files, unless that client has gone. */
+/* Removes all nodes except the root, and all open files, unless that client has disconnected. */
 void nodes_forget_all(struct nodes *all, unsigned client);
-/* The same in steps: no number leads to any of them after the first one; then the descriptors of nodes are closed, which
- * opened nothing, and last those of open files, which may wait for a file system that does not answer. */
+/* The same in steps: nodes_take_all() invalidates all numbers; nodes_let_go() closes the descriptors of nodes,
+ * which do not block; files_let_go() closes those of open files, which may block if a file system does not
+ * respond. */
 struct gone {
 	struct node *node;
 	struct open_file *file;
@@ -261,55 +261,54 @@ struct fd_name {
 
 struct fd_name name_fd(int fd);
 
-/* Opens a file or directory that is in hand by the name by which it was found. -1: it is not there, or may
- * not be opened so. */
+/* Opens a referenced file or directory by the name by which it was found. Returns -1 if that fails. */
 int open_by_name(struct nodes *all, struct node *node, int flags);
-/* Opens what a descriptor is of anew, with these flags; the descriptor, or -1 with errno. */
+/* Opens the file of a descriptor again with these flags. Returns the descriptor, or -1 with errno. */
 int open_again(const struct nodes *all, int fd, int flags);
 
-/* The number of a new open file of a node, which has the descriptor from then on, for which one was reserved, and which
- * was opened with these flags, and an open of `backing`, if there is one; 0: there is no memory, and both stay the caller's. */
+/* Adds an open file of a node and returns its number. It takes over `fd`, for which the caller has reserved a
+ * descriptor and which was opened with these flags, and `backing`, if that is not NULL. On out of memory it
+ * returns 0 and takes over neither. */
 uint64_t file_add(struct nodes *all, unsigned client, uint64_t node, int fd, int flags,
 		  struct backing *backing);
-/* Takes an open file in hand, or NULL. */
+/* Gets a reference to an open file, or NULL. */
 struct open_file *file_get(struct nodes *all, uint64_t number);
-/* Takes one in hand once more, which is in hand. */
+/* Gets another reference to an open file. */
 struct open_file *file_share(struct open_file *file);
 void file_put(struct open_file *file);
-/* Whether the client has a lock of flock(2) by an open file; and another open file than this one, of the same node, by which
- * this owner has one: in hand, or NULL. */
+/* files_have_flock() returns whether the client has a flock(2) lock by any open file. file_with_flock() returns a
+ * reference to another open file of the same node by which this owner has one, or NULL. */
 bool files_have_flock(struct nodes *all);
 struct open_file *file_with_flock(struct nodes *all, const struct open_file *other, uint64_t owner);
-/* 0, or EBADF where there is none. */
+/* Removes an open file. Returns 0, or EBADF if the number is unknown. */
 int file_release(struct nodes *all, unsigned client, uint64_t number);
 
-/* The number of the next node, or open file, after a place, which begins as 0; 0: there is none. */
+/* Returns the number of the next node or open file, or 0 at the end. `*place` must be 0 before the first call. */
 uint64_t node_next(struct nodes *all, uint32_t *place);
 uint64_t file_next(struct nodes *all, uint32_t *place);
 
-/* The directory in which a node was found first, and the name; 0: it isn't known. */
+/* Returns the directory in which a node was first found, and the name; 0: unknown. */
 uint64_t node_found_in(const struct node *node, const char **name);
-/* The handle of a node that is held by one; or NULL. */
+/* Returns the handle of a node, or NULL if it has none. */
 struct file_handle *node_handle(const struct node *node);
 
-/* Lets go of all nodes but the root, and of all open files. Up to nodes_settle no number is used again, so that nodes and
- * open files have those that they had in another server. */
+/* Removes all nodes except the root, and all open files. Until nodes_settle() no number is reused, so that nodes
+ * and open files can get the numbers that they had in another server. */
 void nodes_empty(struct nodes *all);
 void nodes_settle(struct nodes *all);
-/* Enters a node by its number, with that many lookups: of a file that was opened with O_PATH, by a descriptor that is the
- * node's then, or closed. 0, or an error: EEXIST, if the number or the file is another node's. */
+/* Adds a node with this number and lookup count. It takes over `fd`, which was opened with O_PATH, also on error.
+ * Returns 0 or an error: EEXIST, if the number or the file belongs to another node. */
 int node_restore(struct nodes *all, int fd, const struct statx *seen, uint64_t number, uint64_t lookups,
 		 bool is_apart);
-/* The same of an open file of a node, opened with these flags, for whose descriptor one was reserved. */
+/* Adds an open file with this number. The caller must have reserved its descriptor. */
 int file_restore(struct nodes *all, uint64_t node, int fd, int flags, uint64_t number);
-/* A node of this number cannot be entered, or an open file: the number leads to nothing, also after nodes_settle. 0, or
- * ENOMEM. */
+/* Makes a number permanently invalid, because its node or open file could not be restored. Returns 0 or ENOMEM. */
 int node_lose(struct nodes *all, uint64_t number);
 int file_lose(struct nodes *all, uint64_t number);
-/* Whether a node or an open file may have this number. */
+/* Returns whether a node or an open file may have this number. */
 bool is_number(uint64_t number);
 
-/* How many nodes and open files there are, the root among them. */
+/* Counts the nodes, including the root, and the open files. */
 void nodes_count(struct nodes *all, uint32_t *nodes, uint32_t *files);
 
 #endif

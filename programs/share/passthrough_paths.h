@@ -1,11 +1,11 @@
-/* Paths of files below the folder of a passthrough. */
+/* Paths of files below the directory of a passthrough. */
 #ifndef PASSTHROUGH_PATHS_H
 #define PASSTHROUGH_PATHS_H
 
 #include <limits.h>
 #include "passthrough_nodes.h"
 
-/* The folder, and where it is, as /proc shows its descriptors. */
+/* The shared directory, and its path as in /proc/self/fd. */
 struct paths {
 	struct nodes *nodes;
 	int root;
@@ -13,29 +13,30 @@ struct paths {
 	char folder[PATH_MAX];
 };
 
-/* A file of the host: no two files that exist have the same one. */
+/* Identifies a file of the host: no two existing files have the same values. */
 struct file_id {
 	uint64_t inode, device, mount;
 };
 
-/* -1: it cannot be found out where the folder is. */
+/* Returns -1 if the path of the directory cannot be determined. */
 int paths_begin(struct paths *paths, struct nodes *nodes);
 
-/* Opens a path below a directory, of less than PATH_MAX bytes and of plain names with a / between them. No symbolic link is
- * followed, so nothing outside of the directory is opened. The caller must close the descriptor. -1: errno says why. */
+/* Opens a path below a directory: names separated by slashes, shorter than PATH_MAX. No symbolic link is followed,
+ * so that nothing outside of the directory is opened. Returns a descriptor, which the caller must close, or -1
+ * with errno. */
 int open_in(int directory, const char *path, int flags);
-/* The same below the folder, which an empty path is. */
+/* The same below the shared directory, which is the empty path. */
 int open_below(const struct paths *paths, const char *path, int flags);
 
 struct file_id id_of(const struct statx *seen);
 bool is_id(const struct file_id *one, const struct file_id *other);
-/* Whether what was seen is one file. */
+/* Returns whether both are the same file. */
 bool is_same(const struct statx *one, const struct statx *other);
 
-/* Finds a path of the file that a descriptor is of, and that was looked at: its length, or -1. `path` must have PATH_MAX
- * bytes. */
+/* Finds a path of the file of a descriptor, whose attributes are `seen`. Returns its length, or -1. `path` must
+ * have PATH_MAX bytes. */
 ssize_t find_path(const struct paths *paths, int fd, const struct statx *seen, char *path);
-/* Whether a file has this name in a directory. */
+/* Returns whether a file has this name in a directory. */
 bool is_in(int directory, const char *name, const struct statx *seen);
 
 #endif

@@ -1,17 +1,20 @@
-/* The file SOCKET.pid of a share, which says which process serves on a socket, and that one does. */
+/* The file SOCKET.pid, which contains the id of the process that serves a socket, and is locked as long as it
+ * serves. */
 #ifndef SHARE_PID_H
 #define SHARE_PID_H
 
-/* Makes and locks the file: another server of that socket holds it otherwise. -1: it failed, and said why. */
+/* Creates and locks the file, unless another server of that socket holds the lock. On error prints a message and
+ * returns -1. */
 int pid_file_take(const char *socket_path);
 
-/* Writes the calling process into it. -1: it failed, and said why. */
+/* Writes the id of the calling process to the file. On error prints a message and returns -1. */
 int pid_file_write(void);
 
-/* Lets go of it in a process that goes into a sandbox: what stands by keeps it. */
+/* Closes the file in a process that enters a sandbox: the process outside of it keeps the lock. */
 void pid_file_leave(void);
 
-/* Removes it, if there is one, unless another file has its name by now. Any thread may call it, more than once. */
+/* Removes the file, if there is one, unless another file has its name by now. It may be called by any thread, more
+ * than once. */
 void pid_file_remove(void);
 
 #endif

@@ -1,4 +1,4 @@
-/* The namespace of users of a share that isn't root's. */
+/* The user namespace of a server that does not run as root. */
 #ifndef SHARE_USERS_H
 #define SHARE_USERS_H
 
@@ -8,7 +8,7 @@
 
 enum { MOST_RANGES = 32 };
 
-/* Which ids there are in it, and which of the host's they are. */
+/* The ids in the namespace, and the ids of the host to which they are mapped. */
 struct id_map {
 	struct id_range {
 		uint32_t inside, outside, count;
@@ -16,14 +16,14 @@ struct id_map {
 	size_t count;
 };
 
-/* Leaves the namespace of users for one with these ids, or its own ones where a map is empty. Who it is stays
- * the same. -1: it failed, and said why. */
+/* Enters a new user namespace with these ids, or with only the own ids if a map is empty. The user stays the same.
+ * On error it prints a message and returns -1. */
 int users_leave(const struct id_map *uids, const struct id_map *gids);
 
-/* Is root there, if the map has that id. -1: it failed, and said why. */
+/* Becomes root in the namespace, if it has the id 0. On error it prints a message and returns -1. */
 int users_be_root(const struct id_map *uids, const struct id_map *gids);
 
-/* Whether no one may change groups there. */
+/* Returns whether nobody may change supplementary groups there. */
 bool users_keep_groups(void);
 
 #endif

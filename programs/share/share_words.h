@@ -1,4 +1,4 @@
-/* The words by which a share is started. */
+/* The command line of nizwarf-share. */
 #ifndef SHARE_WORDS_H
 #define SHARE_WORDS_H
 
@@ -6,7 +6,7 @@
 #include "passthrough.h"
 #include "share_users.h"
 
-/* What they say. -1: nothing was said. */
+/* Its options. -1: not set. */
 struct share_words {
 	struct passthrough_options files;
 	const char *folder, *mount_point, *socket_path, *socket_group, *source;
@@ -15,33 +15,32 @@ struct share_words {
 	int fd, sandbox, filter;
 	struct id_map uids, gids;
 	bool says_more, is_off, daemonizes, traces, watches, logs;
-	/* A word of --migration-*; --migration-confirm-paths. */
+	/* Whether a --migration-* option was given, and --migration-confirm-paths. */
 	bool migrates, confirms;
-	/* --tag, which shows nowhere. */
+	/* --tag, which has no effect. */
 	const char *tag;
-	/* Requests of a mount come by io_uring where Linux offers it. */
+	/* A mount receives requests by io_uring if Linux supports it. */
 	bool by_ring;
-	/* -o nofail: where there is no such folder, nothing is mounted, and that is no error. */
+	/* -o nofail: if the directory does not exist, nothing is mounted, and that is not an error. */
 	bool may_be_missing;
 	/* --rlimit-nofile was given. */
 	bool wants_files;
 };
 extern struct share_words words;
 
-/* What --help prints. */
+/* The text of --help. */
 extern const char share_usage[];
 
-/* Takes them, and holds them together. It ends if they can't be, or if one asks for something to be printed
- * alone. */
+/* Parses and checks the command line. It exits if that is invalid, or if an option only prints something. */
 void take_words(int count, char **given);
 
-/* Takes options with commas between them, which it takes apart. */
+/* Parses options separated by commas. It modifies the text. */
 void take_options(char *rest);
 
-/* Takes capabilities with + or - before each and colons between them, which it takes apart. */
+/* Parses capabilities separated by colons, each with + or - before it. It modifies the text. */
 void take_capabilities(char *rest);
 
-/* Whether a folder is mounted, and not served on a socket. */
+/* Returns whether the directory is mounted, and not served on a socket. */
 bool is_mount(void);
 
 #endif
