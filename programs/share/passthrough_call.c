@@ -1,9 +1,9 @@
-/* The calls of a passthrough: passthrough.h. A request has been read by the library, which says what it asks for; here
- * that is made of calls of the host, and what is answered is put into the call. Workers run it, any number at once.
+/* The calls of a passthrough: passthrough.h. The library has decoded a request; here it becomes system calls of
+ * the host, and the results are filled into the call. Any number of workers may run at once.
  *
- * make_call() is what they begin with. make_with_node() takes in hand what the call is of, the node, and an open file or
- * a second node if it has such, and puts each at the end, whatever the call comes to: so the functions between
- * those have them, and neither free nor close them. */
+ * They call make_call(). make_with_node() gets references to the objects of a call, which are the node, and an
+ * open file or a second node, and drops them at the end, whatever the call returns. So the functions between them
+ * may use the objects, and must not close or free them. */
 #define _GNU_SOURCE
 #include <errno.h>
 #include <fcntl.h>
@@ -25,7 +25,7 @@
 #define SECURITY_LABELS (UINT64_C(1) << 32)
 #define CREATE_SUPP_GROUP (UINT64_C(1) << 34)
 #define ALLOWS_MMAP (UINT64_C(1) << 36)
-/* What a client has that has access control lists. */
+/* The options of INIT of a client that supports access control lists. */
 #define HAS_LISTS (FUSE_POSIX_ACL | FUSE_DONT_MASK | SETXATTR_EXT)
 
 /* ---- helpers: each that answers a number gives 0 or an error */
@@ -95,7 +95,7 @@ static nizwarf_sx_time time_of(const struct statx_timestamp *time)
 	return (nizwarf_sx_time){ .tv_sec = time->tv_sec, .tv_nsec = time->tv_nsec };
 }
 
-/* STATX: what GETATTR tells, and when the file was made, if the host knows. */
+/* STATX: the attributes of GETATTR, and the time of birth if the host knows it. */
 static int get_statx(const struct call *call)
 {
 	const int fd = call->file ? call->file->counted.fd : call->node.fd;
@@ -157,7 +157,7 @@ static int set_size(const struct call *call)
 	fd = call->file ? call->file->counted.fd : open_node(call, O_WRONLY);
 	if (fd < 0)
 		return errno;
-	/* (so ftruncate(2) takes set-user-ID bits away, if the client asks for that) */
+	/* (so that ftruncate(2) clears set-ID bits if the client wants that) */
 	lose_fsetid(call);
 	error = lose_capability(call, fd);
 	if (!error)
@@ -188,7 +188,7 @@ static int set_owner(const struct call *call, uint32_t valid)
 		       failed(fchownat(call->node.fd, "", uid, gid, AT_EMPTY_PATH | AT_SYMLINK_NOFOLLOW));
 }
 
-/* Linux says NOW where the server's clock is to be taken, which may differ from the client's. */
+/* With NOW, Linux requests the time of the server's clock, which may differ from that of the client. */
 static int set_times(const struct call *call)
 {
 	const nizwarf_setattr *to = &call->asked->attr;
@@ -205,8 +205,8 @@ static int set_times(const struct call *call)
 	return failed(utimensat(call->node.fd, "", times, AT_EMPTY_PATH | AT_SYMLINK_NOFOLLOW));
 }
 
-/* Has the host do what it does at a chown(2) that changes neither owner nor group. Its error is nobody's: where it may not
- * take the bits away here, it does so itself as the file's data are changed. */
+/* Clears set-ID bits as a chown(2) does that changes neither owner nor group. Errors are ignored: if the host may
+ * not clear the bits here, it does so when the file's data change. */
 static void clear_bits(const struct call *call)
 {
 	int ignored;
@@ -217,9 +217,8 @@ static void clear_bits(const struct call *call)
 	regain_fsetid(call);
 }
 
-/* Sets one after the other, and stops at the first error: what was set by then stays. The owner is after
- * the mode, as a change of owner takes bits away from that; so the mode that is answered is looked at
- * last. */
+/* Sets attributes one after another up to the first error; those that were set stay. The owner is set after the
+ * mode, because a change of owner clears bits of the mode; so the mode is read last for the reply. */
 static int set_attr(const struct call *call)
 {
 	const uint32_t valid = nizwarf_setattr_fields(call->asked);
@@ -238,7 +237,7 @@ static int set_attr(const struct call *call)
 	return error ? error : get_attr(call);
 }
 
-/* Whether who asks may, by the bits of the mode. */
+/* Returns whether the mode grants the caller access. */
 static int access_node(const struct call *call)
 {
 	const struct passthrough_options *options = &call->all->options;
@@ -301,14 +300,14 @@ bool is_local(const struct call *call)
 	return call->all->is_local && call->node.node->on->device == call->all->local_device;
 }
 
-/* Whether what is opened is watched. (What is made has nothing that is remembered.) */
+/* Returns whether an existing file is watched. (A client has cached nothing of a new file.) */
 static bool is_watched(const struct call *call)
 {
 	return (call->asked->opcode == NIZWARF_OPEN || call->asked->opcode == NIZWARF_OPENDIR) &&
 	       call->node.node->watched;
 }
 
-/* Answers an open file, whose handle is told. */
+/* Fills in the answer for an open file with this handle. */
 static void tell_open(const struct call *call, bool is_directory, int fd, const struct backing *backing)
 {
 	nizwarf_answer *answer = call->answer;
@@ -331,7 +330,8 @@ static void tell_open(const struct call *call, bool is_directory, int fd, const 
 	if (call->all->nodes.watch && !is_watched(call))
 		answer->open_flags &= ~(uint32_t)(FOPEN_KEEP_CACHE | FOPEN_CACHE_DIR);
 	backing_tell(call, backing, fd);
-	/* (what was only read has nothing to flush but locks, and a client that writes later flushes all the same) */
+	/* (a file that was only read has nothing to flush except locks, and a client with a writeback cache
+	 * flushes anyway) */
 	if (!is_directory && !call->all->locks &&
 	    ((call->asked->flags & O_ACCMODE) == O_RDONLY || is_local(call)))
 		answer->open_flags |= FOPEN_NOFLUSH;
@@ -382,7 +382,8 @@ static int open_file(const struct call *call)
 	return error;
 }
 
-/* Opens a new file with O_PATH by its descriptor, and tells what it is. -1: it failed as errno says. */
+/* Opens a new file without a name with O_PATH by its descriptor, and gets its attributes. Returns -1 with errno on
+ * error. */
 static int open_unnamed(const struct call *call, int fd, struct statx *seen)
 {
 	/* (a node holds what opens nothing: the descriptor that can read and write goes with RELEASE) */
@@ -397,8 +398,8 @@ static int open_unnamed(const struct call *call, int fd, struct statx *seen)
 	return -1;
 }
 
-/* Opens what was just made of a name with O_PATH, and tells what it is: by the name, which costs less, or if that leads
- * to another file by now, by its descriptor. -1: it failed as errno says. */
+/* Opens a file that was just created with O_PATH, and gets its attributes: by its name, which is faster, or by its
+ * descriptor if the name leads to another file by now. Returns -1 with errno on error. */
 static int open_made(const struct call *call, const char *name, int fd, struct statx *seen)
 {
 	const int path = openat(call->node.fd, name, O_PATH | O_NOFOLLOW | O_CLOEXEC);
@@ -412,7 +413,7 @@ static int open_made(const struct call *call, const char *name, int fd, struct s
 	return open_unnamed(call, fd, seen);
 }
 
-/* Labels what was just made: 0, or an error, by which it is gone. */
+/* Sets the label of a new file. On error it removes the file. */
 static int label_new(const struct call *call, const char *name, int fd)
 {
 	int error = label(call, fd);
@@ -424,7 +425,8 @@ static int label_new(const struct call *call, const char *name, int fd)
 	return error;
 }
 
-/* Makes a file by this name, or one without, as who asks, with a node and a descriptor reserved for it: 0, or an error. */
+/* Creates a file, with this name or without one, as the caller of the request. Reserves a node and a descriptor.
+ * Returns 0 or an error. */
 static int open_new(const struct call *call, const char *name, int flags, int *fd)
 {
 	struct nodes *nodes = &call->all->nodes;
@@ -450,8 +452,8 @@ static int open_new(const struct call *call, const char *name, int flags, int *f
 	return error;
 }
 
-/* Answers a new file, of which `path` is a descriptor made with O_PATH, and what was seen of it; or -1: it failed as errno
- * says. If it can't be answered it is still the caller's, but for the node that was reserved. */
+/* Fills in the answer for a new file. `path` is a descriptor of it made with O_PATH, or -1 with errno if that
+ * failed. On error the caller keeps the descriptors, but not the reserved node. */
 static int tell_new(const struct call *call, const char *name, int fd, int path, const struct statx *seen)
 {
 	const struct found found = found_in(&call->node, name);
@@ -495,10 +497,10 @@ static int create_file(const struct call *call)
 	int fd = -1, path, error;
 	struct statx seen;
 
-	/* (a name that is there may be that of a pipe, which waits) */
+	/* (an existing name may be that of a pipe, which would block) */
 	error = open_new(call, name, O_CREAT | O_EXCL | O_NOFOLLOW, &fd);
-	/* The client thinks that a file which CREATE opens is new, and doesn't ask who may open it. So one that came
-	 * meanwhile is not opened, and the client looks the name up again. */
+	/* The client assumes that a file which CREATE opens is new, and does not check permissions. So a file that
+	 * was created meanwhile is not opened, and the client looks the name up again. */
 	if (error)
 		return error == EEXIST && !(asked->flags & O_EXCL) ? ESTALE : error;
 	path = open_made(call, name, fd, &seen);
@@ -523,7 +525,7 @@ static int sync_all(const struct call *call)
 	return error;
 }
 
-/* STATFS: what the host says of the node's file system, which may be another one than the folder's. */
+/* STATFS: the numbers of the node's file system, which may be another one than the directory's. */
 static int statistics(const struct call *call)
 {
 	struct statvfs result;
@@ -627,7 +629,7 @@ static int check_names(const struct call *call)
 	return is_plain(name) && is_plain(other) ? 0 : EINVAL;
 }
 
-/* A call of a node, which is in hand. */
+/* A call about a referenced node. */
 static int make_of_node(const struct call *call)
 {
 	const nizwarf_call *asked = call->asked;
@@ -689,7 +691,7 @@ static bool is_of_node(const nizwarf_call *asked)
 	       asked->opcode == NIZWARF_STATX;
 }
 
-/* Takes in hand what a call is of, and makes it. */
+/* Gets references to the objects of a call, and makes it. */
 static int make_with_node(struct call *call)
 {
 	const nizwarf_call *asked = call->asked;
@@ -705,14 +707,14 @@ static int make_with_node(struct call *call)
 	}
 	if (!error && (asked->opcode == NIZWARF_RENAME || asked->opcode == NIZWARF_LINK))
 		error = node_get(nodes, asked->other_node, &call->other);
-	/* (while one was taken in hand the client may have gone, and a number be the next one's) */
+	/* (meanwhile the client may have disconnected, and the number may belong to the next one) */
 	if (!error && !is_there(call))
 		error = ESTALE;
 	if (!error)
 		error = check_names(call);
 	if (!error)
 		error = call->file && !is_of_node(asked) ? make_of_file(call) : make_of_node(call);
-	/* (each may be none: then nothing was taken in hand) */
+	/* (each may be NULL) */
 	file_put(call->file);
 	if (call->other.node)
 		node_put(&call->other);
@@ -724,7 +726,7 @@ static int make_with_node(struct call *call)
 uint64_t wanted(const struct passthrough *all)
 {
 	const struct passthrough_options *options = &all->options;
-	/* (these are wanted of every client, the others by what the share was started with) */
+	/* (these are wanted from every client, the others depend on the server's options) */
 	uint64_t wants = FUSE_ASYNC_READ | FUSE_BIG_WRITES | FUSE_ATOMIC_O_TRUNC | FUSE_AUTO_INVAL_DATA |
 			 FUSE_ASYNC_DIO | FUSE_PARALLEL_DIROPS | FUSE_MAX_PAGES | CREATE_SUPP_GROUP;
 
@@ -749,7 +751,7 @@ uint64_t wanted(const struct passthrough *all)
 	return wants;
 }
 
-/* Asks for files that the client reads and writes by itself, if they are wanted and it has such. */
+/* Requests that the client reads and writes files itself, if that is enabled and the client supports it. */
 static void want_further(const struct call *call)
 {
 	struct passthrough *all = call->all;
@@ -767,8 +769,7 @@ static void want_further(const struct call *call)
 	call->answer->init_params = more;
 }
 
-/* INIT and DESTROY: what the client had goes, unless it has gone itself while the host did not answer: then it is the
- * next one's. */
+/* INIT and DESTROY: removes all objects of the client, unless it has disconnected while the host did not respond. */
 static void forget_all(const struct call *call)
 {
 	struct passthrough *all = call->all;
@@ -807,8 +808,8 @@ static int agree(const struct call *call)
 	return 0;
 }
 
-/* BATCH_FORGET: pairs of a node and how many lookups of it are given back. The library has held their
- * number against the length of the request. */
+/* BATCH_FORGET: pairs of a node and the number by which its lookup count is decremented. The library has checked
+ * their number against the length of the request. */
 static void forget_each(const struct call *call)
 {
 	const uint8_t *pairs = call->request + call->asked->data.at;
@@ -844,8 +845,8 @@ int make_call(struct call *call)
 		return file_release(&all->nodes, call->client, asked->handle);
 	case NIZWARF_RELEASEDIR:
 		return file_release(&all->nodes, call->client, asked->handle);
-	/* If locks are not offered, nothing is told of these, and the client locks files by itself. Nothing is told
-	 * of the others. */
+	/* If locks are not enabled, they are ENOSYS, and the client locks files locally. The others are ENOSYS
+	 * too. */
 	case NIZWARF_GETLK:
 	case NIZWARF_SETLK:
 	case NIZWARF_SETLKW:

@@ -1,13 +1,13 @@
-/* Nodes and open files of a passthrough: passthrough_nodes.h.
+/* Nodes and open files of a passthrough: passthrough_nodes.h. Each is in a table as long as its number is valid,
+ * and has a reference count: the table has a reference, and so has each call that uses it. Whoever drops the last
+ * reference closes its descriptor and frees it. So a node that a client forgets, or a file that it releases,
+ * exists until the calls that use it have returned.
  *
- * Each is in a table as long as its number leads to it, and is counted: the table is one user, and each call that has
- * it in hand is one. The last user closes its descriptor and frees it, whoever that is; so what a client forgets or
- * releases stays until the calls that are at it have come back.
- *
- * The lock of a table guards its slots and counts, the numbers of its things, and that of the nodes their chains too. It
- * is held for reading to find a thing and take it in hand, or to add a lookup, which is atomic; and for writing to
- * enter a thing or take it out. The host is not called under it, and nothing is closed or freed: so no file system that
- * does not answer holds up who only looks. Neither of the two locks is taken under the other. */
+ * The lock of a table protects its slots and counters, the numbers of its objects, and for nodes the hash chains.
+ * It is locked for reading to find an object and get a reference, or to increment an atomic lookup count; and for
+ * writing to add or remove an object. No system call is made under it, and nothing is closed or freed, so that a
+ * file system that does not respond blocks nobody who only looks up an object. The two locks are never held
+ * together. */
 #define _GNU_SOURCE
 #include <errno.h>
 #include <fcntl.h>
@@ -26,19 +26,19 @@
 #include "passthrough_watch.h"
 #include "say.h"
 
-/* How many slots and chains there are at first: both double as nodes come. No slot has the number 0, so
- * that ends the list of free ones. */
+/* The initial numbers of slots and chains, which double when the table is full. No object uses slot 0, so that it
+ * ends the free list. */
 enum { FIRST_SLOTS = 1024, FIRST_CHAINS = 1024, NO_SLOT = 0 };
-/* No number has this upper half: a slot that was used so often is retired, because its next number would be its first
- * one again, which a client may still have. */
+/* No number has this upper half. A slot that was used so often is retired, because its next number would be its
+ * first one, which a client may still use. */
 #define RETIRED UINT32_MAX
-/* Above which upper half of another server's numbers no slot begins, so that one slot which was used very often does
- * not use up the numbers of all others. */
+/* The largest upper half with which an unused slot begins after a state was loaded, so that one slot which was
+ * used very often in the other server does not exhaust the numbers of all others. */
 #define MOST_BEGINNING UINT32_C(0x80000000)
-/* How many slots a state may cause for open files: 32 MB. */
+/* How many slots a state may create for open files: 32 MB. */
 enum { MOST_FILE_SLOTS = 1 << 22 };
-/* Of how many nodes that go at once the memory is given back; and how many bytes the C library doesn't keep for itself
- * when they are free, nor maps apart. */
+/* MANY: how many nodes must be removed at once for the memory to be returned to the system. LARGE: a size that the
+ * C library neither caches when it is freed nor maps separately. */
 enum { MANY = 65536, LARGE = 96 << 10 };
 
 /* ---- tables */
@@ -57,7 +57,7 @@ static void table_end(struct table *table)
 	free(table->slots);
 }
 
-/* What a slot that was used leads to, or NULL. */
+/* Returns the object of a used slot, or NULL. */
 static struct counted *thing_in(const struct table *table, uint32_t at)
 {
 	const uint64_t slot = table->slots[at];
@@ -65,7 +65,7 @@ static struct counted *thing_in(const struct table *table, uint32_t at)
 	return slot & 1 ? NULL : (struct counted *)(uintptr_t)slot;
 }
 
-/* What a number leads to under the lock, or NULL. */
+/* Returns the object with this number, or NULL. The lock must be held. */
 static struct counted *thing_of(const struct table *table, uint64_t number)
 {
 	const uint32_t at = (uint32_t)number;
@@ -74,8 +74,8 @@ static struct counted *thing_of(const struct table *table, uint64_t number)
 	return thing && thing->number == number ? thing : NULL;
 }
 
-/* Takes what a number leads to in hand, or gives NULL. The lock for reading is enough: the table is a
- * user itself, so the count isn't 0 while the thing is found. */
+/* Returns a reference to the object with this number, or NULL. Locking for reading is enough: the table has a
+ * reference itself, so the count is not 0 while the object is in it. */
 static struct counted *get(struct table *table, uint64_t number)
 {
 	struct counted *thing;
@@ -91,9 +91,8 @@ static struct counted *get(struct table *table, uint64_t number)
 /* Gives a thing a number, under the lock. False: there is no memory. */
 static bool add(struct table *table, struct counted *thing)
 {
-	/* The lower half of a number is its slot, and the upper one how often that was used before: so
-	 * what is freed and what takes its slot have different numbers, and a number that a client kept
-	 * too long leads to nothing. */
+	/* The lower half of a number is its slot, and the upper half the number of earlier uses. So a freed object
+	 * and the next one in its slot have different numbers, and an outdated number of a client is not valid. */
 	uint32_t at = table->first_free;
 	uint64_t uses = table->beginning;
 
@@ -104,7 +103,7 @@ static bool add(struct table *table, struct counted *thing)
 		if (table->used >= table->size) {
 			const size_t size = table->size ? 2 * (size_t)table->size : FIRST_SLOTS;
 			uint64_t *more =
-				/* (a free slot has the next one's number in 31 bits) */
+				/* (a free slot has 31 bits for the number of the next one) */
 				size > UINT32_MAX / 2 ? NULL : realloc(table->slots, size * sizeof(*more));
 
 			if (!more)
@@ -120,8 +119,8 @@ static bool add(struct table *table, struct counted *thing)
 	return true;
 }
 
-/* Makes a slot free, under the lock. Its next number has `uses` as its upper half; if it has no more numbers it is
- * retired, which is to say that it is in no list. */
+/* Frees a slot. The lock must be held. The upper half of its next number is `uses`; if there is none, the slot is
+ * retired, that is, in no list. */
 static void free_slot(struct table *table, uint32_t at, uint64_t uses)
 {
 	if (uses >= RETIRED) {
@@ -139,7 +138,7 @@ static void take(struct table *table, const struct counted *thing)
 	table->count--;
 }
 
-/* The number of the next thing after a place; 0: there is none. */
+/* Returns the number of the next object after a place; 0: there is none. */
 static uint64_t next_in(struct table *table, uint32_t *place)
 {
 	const struct counted *thing = NULL;
@@ -154,7 +153,8 @@ static uint64_t next_in(struct table *table, uint32_t *place)
 	return number;
 }
 
-/* No slot is used again until settle(), and free slots after the last thing are dropped. */
+/* Starts the loading of a state: no slot is reused until settle(), and free slots after the last object are
+ * dropped. */
 static void begin_placing(struct table *table)
 {
 	pthread_rwlock_wrlock(&table->lock);
@@ -165,8 +165,8 @@ static void begin_placing(struct table *table)
 	pthread_rwlock_unlock(&table->lock);
 }
 
-/* Has the table reach up to a slot, under the lock: 0, or ENOMEM. The number comes from another server, so the caller
- * must have compared the slot with the largest one that may be. */
+/* Grows a table up to a slot. The lock must be held. Returns 0 or ENOMEM. The number comes from another server, so
+ * the caller must have checked that the slot is not too large. */
 static int reach(struct table *table, uint32_t at)
 {
 	size_t size = table->size ? table->size : FIRST_SLOTS;
@@ -212,8 +212,8 @@ static int place_in(struct table *table, struct counted *thing, uint64_t number)
 	return 0;
 }
 
-/* Gives a number to nothing, now and later: the next number of its slot is above it. 0, or ENOMEM. A slot above `most`
- * is not reached by any thing here. */
+/* Makes a number permanently invalid: the next number of its slot is above it. Returns 0 or ENOMEM. A slot above
+ * `most` is never used. */
 static int lose_in(struct table *table, uint64_t number, uint32_t most)
 {
 	const uint32_t at = (uint32_t)number;
@@ -229,9 +229,9 @@ static int lose_in(struct table *table, uint64_t number, uint32_t most)
 	return error;
 }
 
-/* Has the slots used again that are free. A number of the state never becomes another thing's, since its slot goes on
- * above it. Of the numbers that the other server gave before that, only the state's largest upper half tells: all slots
- * go on above this one, up to MOST_BEGINNING. */
+/* Ends the loading of a state: free slots may be used again. A number of the state never becomes that of another
+ * object, because its slot continues above it. The other server may have used numbers before that are not in the
+ * state. Only the state's largest upper half shows them, so all slots continue above that, up to MOST_BEGINNING. */
 static void settle(struct table *table)
 {
 	pthread_rwlock_wrlock(&table->lock);
@@ -276,7 +276,7 @@ int node_reserve(struct nodes *all)
 
 	if (atomic_fetch_add(&all->places, 1) >= all->most_nodes) {
 		error = ENFILE;
-		/* (once: a client may ask as often as it likes) */
+		/* (only once, because a client may cause this as often as it likes) */
 		if (!atomic_flag_test_and_set(&all->said_most))
 			transport_say(
 				"nizwarf-share",
@@ -296,7 +296,7 @@ void node_give_back(struct nodes *all)
 	atomic_fetch_sub(&all->places, 1);
 }
 
-/* Closes the descriptor of what is no new node. */
+/* Closes the descriptor of a file that does not become a new node. */
 static void node_let_go(struct nodes *all, int fd)
 {
 	close(fd);
@@ -316,8 +316,7 @@ static const char *name_in(const struct node *node)
 	return node->rest + node->handle_size;
 }
 
-/* One user less. The last one closes what the node holds, and is the only one that has it: so no lock is
- * held. */
+/* Drops a reference. The last one frees the node, which nobody else can find, so no lock is needed. */
 static void free_node(struct node *node)
 {
 	struct nodes *all;
@@ -464,8 +463,8 @@ static bool is_last_name(const struct statx *seen)
 	return S_ISDIR(seen->stx_mode) || seen->stx_nlink <= 1;
 }
 
-/* Has the node of a handle keep a descriptor, if there is such a node and it has none: the node, in hand, or NULL. It is
- * set under the lock for writing, as who looks a node up compares handles only where there is no descriptor. */
+/* Makes the node that has this handle keep a descriptor, unless it has one. Returns a reference to it, or NULL.
+ * The lock for writing is required, because a lookup compares handles only for nodes without a descriptor. */
 static struct node *keep_by_handle(struct nodes *all, int fd, const struct statx *seen,
 				   const struct file_handle *handle)
 {
@@ -517,7 +516,8 @@ void node_kept(struct nodes *all, struct node *node, bool is_removed)
 	/* (another call, or a program of the host, may have removed the last name meanwhile) */
 	if (fstat(node->counted.fd, &seen) || !seen.st_nlink)
 		is_removed = true;
-	/* (nobody has the descriptor in hand if the users are the table and this one: who comes next opens the handle) */
+	/* (if only the table and this call refer to the node, nobody uses the descriptor: the next user opens the
+	 * handle) */
 	pthread_rwlock_wrlock(&all->nodes.lock);
 	if (!is_removed && atomic_load(&node->counted.users) == 2 &&
 	    thing_of(&all->nodes, node->counted.number) == &node->counted) {
@@ -607,8 +607,8 @@ static uint64_t find_known(struct nodes *all, unsigned client, const struct stat
 	return number;
 }
 
-/* Adds a lookup of a known node; or `*made`, which is NULL then: but not if no handle is told, and the file may be
- * known by one. The node's number; 0: neither could be. */
+/* Increments the lookup count of a known node; or else adds `*made`, and sets it to NULL. It adds nothing if no
+ * handle is passed although the file may be known by one. Returns the number of the node, or 0. */
 static uint64_t add_lookup(struct nodes *all, unsigned client, const struct statx *seen,
 			   const struct file_handle *handle, struct node **made)
 {
@@ -688,8 +688,8 @@ void nodes_watch(struct nodes *all, struct watch *watch, uint64_t device)
 		watch_name(root->watched, ROOT_NODE);
 }
 
-/* Makes a node of a file, which has its handle, if there is one that opens, or else the descriptor: that is
- * the node's from then on, and so is what was reserved. 0, or an error. */
+/* Creates a node for a file, with its handle if that can be opened, or else with the descriptor. It takes over the
+ * descriptor and the reservation. Returns 0 or an error. */
 static int make(struct nodes *all, const struct found *found, int fd, const struct statx *seen,
 		struct file_handle *handle, struct node **made)
 {
@@ -741,7 +741,7 @@ int open_by_name(struct nodes *all, struct node *node, int flags)
 	struct stat seen;
 	int fd = -1;
 
-	/* (what is truncated is looked at before) */
+	/* (a file that is truncated must be checked before) */
 	if (!node->directory || flags & O_TRUNC || atomic_load(&node->is_elsewhere) ||
 	    node_hold(all, node->directory, &directory))
 		return -1;
@@ -762,7 +762,7 @@ int open_by_name(struct nodes *all, struct node *node, int flags)
 static struct file_handle *handle_wanted(struct nodes *all, int fd, const struct statx *seen,
 					 union handle_room *room)
 {
-	/* (what has no name is not found by its handle) */
+	/* (a file without a name cannot be opened by its handle) */
 	const bool by_handle =
 		seen->stx_nlink && (atomic_load(&all->kept) > all->handles_from || some_handle(all, seen));
 
@@ -778,14 +778,14 @@ int node_enter(struct nodes *all, unsigned client, const struct found *found, in
 	int error;
 
 	*number = handle ? find_known(all, client, seen, handle) : 0;
-	/* (what is known by its handle is not found without one either) */
+	/* (a file that is known by its handle is not found without one either) */
 	if (is_new && *number)
 		*is_new = true;
 	if (*number) {
 		node_let_go(all, fd);
 		return 0;
 	}
-	/* (made before the lock is taken: the host is asked under none) */
+	/* (before the lock is taken, because no system call may be made under it) */
 	error = make(all, found, fd, seen, handle, &made);
 	if (error)
 		return error;
@@ -818,7 +818,7 @@ int node_restore(struct nodes *all, int fd, const struct statx *seen, uint64_t n
 	struct file_handle *handle;
 	union handle_room room;
 	struct node *made;
-	/* (the slot is chosen by the other server's data: a large one would want as large a table) */
+	/* (the slot comes from the other server's state: a large one would require as large a table) */
 	int error = (uint32_t)number > all->most_nodes ? ENFILE : node_reserve(all);
 
 	if (error) {
@@ -861,7 +861,7 @@ void node_forget(struct nodes *all, unsigned client, uint64_t number, uint64_t c
 	pthread_rwlock_wrlock(&all->nodes.lock);
 	if (number != ROOT_NODE && is_client(all, client))
 		node = (struct node *)thing_of(&all->nodes, number);
-	/* (a client that gives back more than it has loses the node, and no other one) */
+	/* (a client that sends too large a count loses only this node) */
 	if (node && atomic_load(&node->lookups) > count) {
 		atomic_fetch_sub(&node->lookups, count);
 		node = NULL;
@@ -985,7 +985,7 @@ int node_lose(struct nodes *all, uint64_t number)
 	return lose_in(&all->nodes, number, all->most_nodes);
 }
 
-/* The largest slot that an open file of another server may have here. */
+/* The largest slot of an open file of another server. */
 static uint32_t most_file_slots(const struct nodes *all)
 {
 	return all->most_kept < MOST_FILE_SLOTS ? all->most_kept : MOST_FILE_SLOTS;
@@ -1022,7 +1022,7 @@ uint64_t file_next(struct nodes *all, uint32_t *place)
 	return next_in(&all->files, place);
 }
 
-/* How many descriptors may be kept, if that many are for others. Where that leaves few, it is a quarter. */
+/* How many descriptors may be kept, if `others` are used otherwise: a quarter of the limit at least. */
 static unsigned most_to_keep(unsigned others)
 {
 	struct rlimit limit;

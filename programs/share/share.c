@@ -1,13 +1,12 @@
-/* Shares a folder of the host: mounts it on another one over /dev/fuse, or serves it to a virtual machine
- * over vhost-user, as its virtio-fs device.
+/* nizwarf-share: mounts a directory of the host over /dev/fuse, or serves it to a virtual machine over vhost-user,
+ * as its virtio-fs device.
  *
- * --help lists the options. Standard error says what is wrong. Status 0: it was unmounted, or a signal
- * ended it; 1: something failed; 2: the command line cannot be served.
+ * --help lists the options. Errors are printed on standard error. Exit status 0: it was unmounted, or a signal
+ * ended it; 1: an error occurred; 2: the command line is invalid.
  *
- * main() takes the words (share_words.c), opens what takes a path and root, and forks into the sandbox
- * (share_sandbox.c). There serve() begins the passthrough (passthrough.c) and hands it to a transport,
- * which has threads for its workers. What follows has an order: each right that is given up is one
- * that nothing later needs. */
+ * main() parses the options (share_words.c), opens everything that requires a path or root, and forks into the
+ * sandbox (share_sandbox.c). There serve() creates the passthrough (passthrough.c) and runs a transport, which
+ * starts the workers. The order matters: each privilege is dropped as soon as nothing later needs it. */
 #define _GNU_SOURCE
 #include <errno.h>
 #include <fcntl.h>
@@ -58,8 +57,8 @@ static int failed(const char *action, const char *object)
 	return -1;
 }
 
-/* Has each of the standard descriptors lead somewhere: a file of the folder that got one would be
- * written what is said. (A new descriptor is the lowest that is free.) */
+/* Opens /dev/null for each standard descriptor that is closed. Otherwise a file of the directory could get its
+ * number, and messages would be written to that file. (A new descriptor has the lowest number that is free.) */
 static int fill_standard(void)
 {
 	for (int fd = 0; fd <= 2; fd++)
@@ -80,8 +79,8 @@ static void pass_signals(pid_t child)
 			kill(child, ending[i]);
 }
 
-/* Each file that a client knows may have a descriptor. Who isn't root may not raise the limit above
- * its hard one: then that is what there is, and a client may know fewer files. */
+/* Raises the limit of descriptors, because each file that a client knows may have one. Without root it cannot
+ * exceed the hard limit; then the client may know fewer files. */
 static void raise_limit(void)
 {
 	struct rlimit limit = { words.most_files, words.most_files };
@@ -113,9 +112,9 @@ static void grow_table(int root)
 		close(fd);
 }
 
-/* A socket by which a service manager is told, connected; -1: none is wanted. (sd_notify(3): a path,
- * or an abstract name, which begins with @ in place of a 0. In the sandbox the path leads nowhere, so
- * it is connected before.) */
+/* Connects to the socket of the service manager, and returns it; -1: there is none. (As in sd_notify(3), it is a
+ * path, or an abstract name that begins with @ in place of a 0. The path is not valid in the sandbox, so it is
+ * connected before.) */
 static int meet_manager(void)
 {
 	const char *path = getenv("NOTIFY_SOCKET");
@@ -138,8 +137,8 @@ static int meet_manager(void)
 	return fd;
 }
 
-/* Forks, and goes on in the child: the parent waits until that serves. Gives where to tell it, or -1.
- * If the child ends before, the pipe is closed, and the parent ends with status 1. */
+/* Forks and returns in the child, while the parent waits until the child serves. Returns the descriptor by which
+ * to notify the parent, or -1. If the child exits before, the pipe is closed, and the parent exits with status 1. */
 static int go_to_background(void)
 {
 	int ends[2];
@@ -166,9 +165,9 @@ static int go_to_background(void)
 	return ends[1];
 }
 
-/* Who waits until it serves: a service manager, and the process that was started. /dev/null, if it
- * goes to the background or is to be quiet. -1: there is none. Both the server and what stands by have
- * them, and each lets go. */
+/* The sockets of the service manager and of the parent process, which wait until the server is ready; and
+ * /dev/null, if the server goes to the background or prints nothing. -1: there is none. Both the server and the
+ * process outside of the sandbox have these descriptors, and both close them. */
 static int manager = -1, starter = -1, nothing = -1;
 
 /* Lets go of those who wait, and of output, but for that which is logged. */
@@ -185,8 +184,8 @@ static void go_quiet(void)
 		close(manager);
 }
 
-/* Tells the service manager, as soon as that takes it, or unless a signal comes first; without a descriptor that tells of
- * one, within GUARD_MOST. */
+/* Notifies the service manager. It waits until the manager accepts the message, but not longer than until a signal
+ * arrives or, if signals cannot be waited for, GUARD_MOST milliseconds. */
 static void tell_manager(void)
 {
 	static const char ready[] = "READY=1\n";
@@ -205,7 +204,7 @@ static void tell_manager(void)
 		close(wait[0].fd);
 }
 
-/* Tells whoever waits that it serves: by what stands by, if there is such, and else by the server. */
+/* Reports that the server is ready. With a sandbox, the process outside of it calls this function. */
 static void tell_ready(void *user)
 {
 	(void)user;
@@ -221,8 +220,8 @@ static void tell_ready(void *user)
 	go_quiet();
 }
 
-/* Gives a new socket to a group. It is named by a descriptor: who may write to its folder may have put a link in
- * its place. */
+/* Changes the group of a new socket. It uses a descriptor, because a user who can write to the socket's directory
+ * may have replaced the socket by a link. */
 static int give_to_group(const char *path, gid_t group)
 {
 	const int fd = open(path, O_PATH | O_NOFOLLOW | O_CLOEXEC);
@@ -247,9 +246,10 @@ static void *remove_both(void *none)
 	return none;
 }
 
-/* Removes the socket, and then the file of the process, by whose lock no other share makes one meanwhile. It is called
- * where the process ends, by the transport if a request doesn't come back, and by what stands by a sandbox. Where
- * neither was made, or the process is in the sandbox, it does nothing; and if their folder doesn't answer they are left. */
+/* Removes the socket and then the pid file, whose lock keeps another server from creating a socket meanwhile. It
+ * is called when the process exits: by the transport if a request is blocked, and by the process outside of a
+ * sandbox. It does nothing in the sandbox, or if neither was created. If the file system of their directory does
+ * not respond, they are left. */
 static void remove_socket(void *user)
 {
 	(void)user;
@@ -273,13 +273,14 @@ static int look_at_socket(const char *path)
 
 	if (strlen(path) > most)
 		refuse("--socket-path must not be longer than %zu bytes: '%s'", most, path);
-	/* (the directory is the root, or that in which the program was started, or what is before the name) */
+	/* (the directory is /, the working directory, or the path without its last name) */
 	snprintf(directory, sizeof(directory), "%.*s", name ? (int)(len ? len : 1) : 1, name ? path : ".");
 	return faccessat(AT_FDCWD, directory, W_OK | X_OK, AT_EACCESS) ? failed("create socket", path) : 0;
 }
 
-/* Listens for the owner, and for the group of those who may connect too. Who connects has the whole
- * folder, as the server has it. If it can't, the program ends: status 2 if a word can't be, or else 1. */
+/* Listens on the socket, which only the owner and the group of --socket-group may connect to, because a client has
+ * the same access to the directory as the server. On error it exits: with status 2 if an option is invalid,
+ * otherwise with 1. */
 static int listen_on_socket(const transport *of)
 {
 	const struct group *group = words.socket_group ? getgrnam(words.socket_group) : NULL;
@@ -341,11 +342,11 @@ static transport_notices notices = TRANSPORT_NO_NOTICES;
 /* Without a sandbox: it has mounted, and nobody else unmounts. */
 static atomic_bool is_mounted;
 
-/* Where nothing stands by, this ends the process at a signal while something is done that a file system may not answer: of
- * the socket's folder; and without a sandbox of the folder that is shared, up to when it serves. */
+/* Without a process outside, this function ends the process at a signal during operations on file systems that may
+ * not respond: that of the socket, and without a sandbox that of the shared directory until it is served. */
 static void leave(void)
 {
-	/* (before that, what is mounted there is another's) */
+	/* (otherwise the mount there is not this server's) */
 	if (atomic_load(&is_mounted))
 		fuse_device_detach(&by, words.mount_point);
 	remove_socket(NULL);
@@ -378,7 +379,7 @@ static int write_pid_guarded(void)
 /* How many queues it has over io_uring, and workers. */
 static unsigned queues, ring_workers;
 
-/* Looks how a mount may be served over io_uring. (In the sandbox Linux doesn't tell.) */
+/* Checks whether a mount can be served over io_uring. (In the sandbox Linux does not show that.) */
 static void look_for_rings(void)
 {
 	if (!words.by_ring || device < 0)
@@ -415,8 +416,9 @@ static void count_workers(void)
 		words.files.workers = 1 + ring_workers;
 }
 
-/* Mounts: in the process that stands by, or without a sandbox in the server. The kernel looks at
- * permissions (default_permissions), by the modes that it is told. 0, or -1: it failed, and said why. */
+/* Mounts the directory, in the process outside of the sandbox or, without one, in the server. The kernel checks
+ * permissions (default_permissions) by the modes that the server returns. On error prints a message and returns
+ * -1. */
 static int mount_folder(void *user)
 {
 	char options[80];
@@ -449,7 +451,7 @@ static int limit_backing(void *user)
 	return sandbox_filter_backing((enum calls_filter)words.filter);
 }
 
-/* Leaves the process what it needs to serve. -1: it failed, and said why. */
+/* Drops all privileges that serving does not need. On error prints a message and returns -1. */
 static int limit(struct passthrough *all)
 {
 	const bool mounts = words.mount_point && words.sandbox == SANDBOX_NONE;
@@ -461,7 +463,7 @@ static int limit(struct passthrough *all)
 		return failed("drop privileges", NULL);
 	if (passthrough_watch(all))
 		return failed("watch directory", words.folder);
-	/* (last of all: what is opened or made from here on is by the calls of the filter) */
+	/* (the last step, because from here on only the system calls of the filter are possible) */
 	return sandbox_filter((enum calls_filter)words.filter,
 			      (mounts ? MAY_UNMOUNT : 0) | (words.files.notices ? MAY_WATCH : 0) |
 				      (is_mount() ? 0 : MAY_TELL_HANDLES) |
@@ -481,7 +483,7 @@ static int begin_mount(void)
 	return 0;
 }
 
-/* Tells that it serves. (A service manager hears the process alone that it started.) */
+/* Reports that the server is ready. (A service manager accepts messages only from the process that it started.) */
 static void tell_outside(void)
 {
 	if (words.sandbox == SANDBOX_NONE) {
@@ -492,12 +494,11 @@ static void tell_outside(void)
 	}
 }
 
-/* Serves in the sandbox, from its entering on: the status with which the process ends. Rings are made
- * before the filter forbids it, and it is told that it serves once nothing can fail any more but the
- * serving. */
+/* Enters the sandbox and serves. Returns the exit status. Rings are created before the filter forbids that, and
+ * the server reports that it is ready once nothing except serving can fail. */
 static int serve(int listener)
 {
-	/* What stands by unmounts, where something does. */
+	/* With a sandbox, the process outside unmounts. */
 	const bool is_alone = words.sandbox == SANDBOX_NONE;
 	const char *unmounts = is_alone ? words.mount_point : NULL;
 	struct passthrough *all;
@@ -548,8 +549,8 @@ static int look_at_folder(void)
 	return 0;
 }
 
-/* Finds the folder and where it is mounted. Status 2: they can't be. (Who may write to what is above
- * may replace what they lead to, up to when the sandbox is entered.) */
+/* Resolves the paths of the directory and the mount point. Returns status 2 on error. (A user who can write to a
+ * directory above them can replace them until the sandbox is entered.) */
 static int find_places(void)
 {
 	static char folder[PATH_MAX], mount_point[PATH_MAX];
@@ -567,7 +568,7 @@ static int find_places(void)
 	if (!realpath(words.mount_point, mount_point))
 		return failed("open mount point", words.mount_point), 2;
 	words.mount_point = mount_point;
-	/* A server that looks there would ask itself. */
+	/* Otherwise the server would send requests to itself. */
 	if (is_below(mount_point, folder) && strcmp(mount_point, folder) != 0)
 		refuse("mount point '%s' is inside the shared directory", mount_point);
 	return 0;
@@ -626,7 +627,7 @@ int main(int count, char **given)
 		return 1;
 	if (write_pid_guarded())
 		return 1;
-	/* (outside of the sandbox: what is forked here keeps CAP_SYS_ADMIN) */
+	/* (outside of the sandbox, because the process that is forked here keeps CAP_SYS_ADMIN) */
 	if (words.files.passthrough &&
 	    (words.files.backing = fuse_backing_start(&by, device, limit_backing)) < 0)
 		return 1;
@@ -636,7 +637,7 @@ int main(int count, char **given)
 	outside.unmount = unmount_folder;
 	if (sandbox_fork((enum sandbox)words.sandbox, &words.uids, &words.gids, &outside))
 		return 1;
-	/* (in a sandbox their paths lead elsewhere: what stands by removes them) */
+	/* (their paths are not valid in a sandbox: the process outside removes them) */
 	if (words.sandbox != SANDBOX_NONE) {
 		vhost_user_leave_socket();
 		pid_file_leave();

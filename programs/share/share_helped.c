@@ -31,7 +31,7 @@ void take_from_mount(int count, char **given)
 	 * mounted) */
 	words.daemonizes = true;
 	words.says_more = false;
-	/* (what is open here would stay so as long as it serves) */
+	/* (descriptors that mount(8) left open would stay open as long as the server runs) */
 #ifdef SYS_close_range
 	syscall(SYS_close_range, STDERR_FILENO + 1, UINT_MAX, 0);
 #endif
@@ -55,7 +55,7 @@ void end_helped(void)
 {
 	if (!helped.is_fake && !helped.remounts)
 		return;
-	/* (a remount changes the flags of the mount, and not what the server serves) */
+	/* (a remount changes the flags of the mount, but not the server) */
 	if (!helped.is_fake && mount(NULL, words.mount_point, NULL, MS_REMOUNT | words.flags, NULL)) {
 		fprintf(stderr, "nizwarf-share: cannot remount '%s': %s\n", words.mount_point,
 			strerror(errno));

@@ -38,7 +38,7 @@ static int open_locked(void)
 {
 	struct stat opened;
 
-	/* (who may write to its folder may have put a link in its place, or a pipe) */
+	/* (a user who can write to its directory may have replaced it by a link or a pipe) */
 	file = open(path, O_RDWR | O_CREAT | O_NOFOLLOW | O_NONBLOCK | O_CLOEXEC, 0600);
 	if (file < 0 || fstat(file, &opened))
 		return -1;
@@ -85,7 +85,7 @@ int pid_file_take(const char *socket_path)
 	else
 		fprintf(stderr, "nizwarf-share: socket '%s' is in use: another server has locked '%s'\n",
 			socket_path, path);
-	/* (what has its name is none of this server's, and stays) */
+	/* (the file with this name is not this server's, and stays) */
 	pid_file_leave();
 	return -1;
 }

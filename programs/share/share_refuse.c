@@ -1,5 +1,5 @@
-/* Refuses command lines that cannot be served: share_refuse.h. Each message names what is wrong, in the words of getopt(3),
- * and says why where that is not plain. */
+/* Refuses invalid command lines: share_refuse.h. A message names the option that is wrong, in the words of
+ * getopt(3), and the reason if that is not obvious. */
 #define _GNU_SOURCE
 #include <linux/capability.h>
 #include <linux/xattr.h>
@@ -12,7 +12,7 @@
 #include "share_sandbox.h"
 #include "share_words.h"
 
-/* (2, as what the caller said is wrong, and not what the host has) */
+/* (status 2, because the command line is wrong, and not the host) */
 _Noreturn void refuse(const char *format, ...)
 {
 	va_list rest;
@@ -77,7 +77,7 @@ static void hold_mount_together(void)
 		refuse("--passthrough requires a mount point: a guest's kernel cannot open files of the host");
 	if (words.files.passthrough && words.files.writeback)
 		refuse("--passthrough and --writeback cannot be combined: Linux supports only one of them");
-	/* (Linux opens for writing what the server may have opened for reading alone) */
+	/* (Linux opens files for writing that the server may have opened only for reading) */
 	if (words.files.passthrough && words.files.fewer_capabilities & UINT64_C(1) << CAP_DAC_OVERRIDE)
 		refuse("--passthrough requires the capability dac_override, which --modcaps drops");
 	if (words.watches && !is_mount())
@@ -87,7 +87,7 @@ static void hold_mount_together(void)
 	/* (a node that is held by a handle has no descriptor by which it is marked) */
 	if (words.watches && words.files.file_handles != HANDLES_NEVER)
 		refuse("--watch and --inode-file-handles cannot be combined: watched files must stay open");
-	/* (of what a client writes by itself the server doesn't know) */
+	/* (the server does not see what a client writes itself) */
 	if (words.files.passthrough && words.files.capability)
 		refuse("--passthrough cannot be combined with an --xattrmap that renames " XATTR_NAME_CAPS
 		       ": Linux drops file capabilities only under that name");
@@ -113,7 +113,7 @@ static void hold_to_user(void)
 {
 	if (is_mount() && geteuid() != 0)
 		refuse("mounting requires root");
-	/* (chroot(2) takes a capability: who isn't root gets such by a namespace of users, with the
+	/* (chroot(2) requires a capability, which a user other than root has only in the user namespace of the
 	 * other sandbox) */
 	if (words.sandbox == SANDBOX_CHROOT && geteuid() != 0)
 		refuse("--sandbox=chroot requires root");
@@ -131,7 +131,7 @@ void hold_together(void)
 {
 	struct xattr_name host;
 
-	/* What is served, and where. */
+	/* The directory, and where it is served. */
 	if (!words.folder || !*words.folder)
 		refuse_usage("missing directory to share");
 	if (words.socket_path && !*words.socket_path)
@@ -143,7 +143,7 @@ void hold_together(void)
 	if (words.socket_group && !words.socket_path)
 		refuse("--socket-group requires --socket-path");
 	hold_to_user();
-	/* What is served together. */
+	/* Combinations of options. */
 	if (words.files.posix_acl && (xattr_is_renamed(XATTR_NAME_POSIX_ACL_ACCESS, &host) ||
 				      xattr_is_renamed(XATTR_NAME_POSIX_ACL_DEFAULT, &host)))
 		refuse("--posix-acl requires an --xattrmap that does not rename access control lists: begin it with "

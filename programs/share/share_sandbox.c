@@ -1,11 +1,11 @@
-/* Sandboxes and filters of a share: share_sandbox.h. All of it runs before there are workers: main()
- * forks (sandbox_fork), and the child enters the sandbox, makes what the filter forbids, and has the
- * filter loaded before it takes a request.
+/* Sandbox and system call filter of nizwarf-share: share_sandbox.h. All of it runs before there are workers:
+ * main() forks (sandbox_fork), and the child enters the sandbox, creates everything that the filter forbids to
+ * create, and loads the filter before it receives a request.
  *
- * With a sandbox there are two processes. The child serves, and is to reach the folder, /proc/self/fd
- * and what is open, and nothing else. The parent stands by outside, and does what takes a path: it
- * mounts, unmounts, and removes the socket and the file of its process. They talk by two pipes, a byte
- * at a time; a child that was taken over by a client can ask it for nothing else than that mount. */
+ * With a sandbox there are two processes. The child serves, and can reach only the shared directory, /proc/self/fd
+ * and open files. The parent stays outside of the sandbox, and does all that requires a path: it mounts, unmounts,
+ * and removes the socket and the pid file. They communicate by two pipes, a byte at a time. A child that a client
+ * has compromised can make the parent do nothing but that one mount. */
 #define _GNU_SOURCE
 #include <errno.h>
 #include <fcntl.h>
@@ -41,8 +41,8 @@ static int failed(const char *action)
 	return -1;
 }
 
-/* By which the server asks for a mount, and is told that it is there; and tells that it is ready. Of
- * each pipe the first end is read, and the second written. */
+/* The pipes by which the server requests the mount and reports that it is ready, and by which the parent confirms
+ * the mount. The first end of each pipe is for reading. */
 static int asks[2] = { -1, -1 }, tells[2] = { -1, -1 };
 enum { MOUNT = 'm', READY = 'r' };
 
@@ -59,20 +59,20 @@ void sandbox_ready(void)
 {
 	const char is_ready = READY;
 
-	/* (what stands by went before its end would be told) */
+	/* (the parent has exited without notifying the child) */
 	if (write(asks[1], &is_ready, 1) != 1)
 		_exit(1);
 	close(asks[1]);
 	close(tells[0]);
 }
 
-/* In seconds: how long the child may take to end once it is told, and once it is killed. */
+/* In seconds: how long the parent waits for the child to exit after a signal, and after SIGKILL. */
 enum { PATIENCE = 3 };
 
 /* How far the end has come: the child serves up to its last user; it is to end; it is killed. */
 enum end { NOT_ASKED, UNMOUNTED, TOLD, KILLED };
 
-/* The server, as what stands by sees it. Up to when it is ready, or has ended, it may ask. */
+/* The server, as the parent sees it. It may send requests until it is ready or has exited. */
 struct server {
 	pid_t child;
 	const struct outside *outside;
@@ -80,7 +80,7 @@ struct server {
 	enum end end;
 };
 
-/* Does what the server asks. One that ends closes its end of the pipe, and asks no more. */
+/* Handles a request of the server. A server that exits closes its end of the pipe. */
 static void do_asked(struct server *server)
 {
 	const struct outside *outside = server->outside;
@@ -99,9 +99,9 @@ static void do_asked(struct server *server)
 	close(tells[1]);
 }
 
-/* Waits for a signal, of which `signals` tells, and meanwhile does what the server asks: so a signal ends one too that
- * doesn't come to be ready, as where the folder's file system does not answer. The number of the signal; 0: there is
- * none yet; -1: the time is over in which the server was to end. */
+/* Waits for a signal of the signalfd `signals`, and handles requests of the server meanwhile, so that a signal
+ * also ends a server that does not become ready because a file system does not respond. Returns the number of the
+ * signal; 0: there is none yet; -1: the server has not exited in time. */
 static int await_signal(struct server *server, int signals)
 {
 	const bool is_to_end = server->end >= TOLD || (server->end == UNMOUNTED && server->may_ask);
@@ -146,16 +146,16 @@ static void pass_on(struct server *server, int signal)
 		server->end = TOLD;
 }
 
-/* Waits for the child, and ends as it did: with its status; or with 1 if a signal ended it, and 0 if
- * that was the one from here; or with 1 if the mount is left. Signals come only while it waits, as they are
- * blocked. Once the child was told to end it waits for PATIENCE. */
+/* Waits for the child and exits with its status; or with 1 if a signal killed it, but with 0 if the parent sent
+ * that; or with 1 if the mount remains. Signals are blocked except while it waits. After a signal, the child has
+ * PATIENCE seconds to exit. */
 static _Noreturn void stand_by(pid_t child, int signals, const struct outside *outside)
 {
 	struct server server = { .child = child, .outside = outside, .may_ask = true, .end = NOT_ASKED };
 	bool is_left;
 	int status = W_EXITCODE(1, 0);
 
-	/* (the child's ends: else it would not be seen that it has ended) */
+	/* (otherwise the parent would not notice that the child has exited) */
 	close(asks[1]);
 	close(tells[0]);
 	for (;;) {
@@ -181,8 +181,7 @@ static _Noreturn void stand_by(pid_t child, int signals, const struct outside *o
 	_exit(is_left ? 1 : WIFEXITED(status) ? WEXITSTATUS(status) : server.end != KILLED);
 }
 
-/* The signals that a server, or what stands by, waits for: they are blocked, and taken when it wants
- * to. */
+/* Blocks the signals that the server or the parent waits for. */
 static void block_signals(sigset_t *awaited)
 {
 	sigemptyset(awaited);
@@ -223,7 +222,7 @@ int sandbox_fork(enum sandbox sandbox, const struct id_map *uids, const struct i
 	close(signals);
 	close(asks[0]);
 	close(tells[1]);
-	/* (a signal of the terminal is for what stands by) */
+	/* (so that signals of a terminal are sent only to the parent) */
 	setpgid(0, 0);
 	/* The others stay blocked: as the first process of its namespace it would lose one that comes
 	 * before it waits for them. */
@@ -232,7 +231,7 @@ int sandbox_fork(enum sandbox sandbox, const struct id_map *uids, const struct i
 	sigprocmask(SIG_UNBLOCK, &child_ended, NULL);
 	if (users_be_root(uids, gids))
 		return -1;
-	/* (it must not outlive what stands by, which alone can unmount. If that went before this,
+	/* (the child must not outlive the parent, which alone can unmount. If the parent has exited before this,
 	 * sandbox_mount() or sandbox_ready() fails.) */
 	prctl(PR_SET_PDEATHSIG, SIGTERM);
 	return 0;
@@ -258,8 +257,8 @@ static int open_apart(void)
 	return fd;
 }
 
-/* The same without a namespace. It takes CAP_SYS_ADMIN, which root may lack in a container: there it can't be
- * had, and what is opened leads out. */
+/* The same without a namespace. It requires CAP_SYS_ADMIN, which root may lack in a container. Without that, `..`
+ * leads out of the directory that is opened. */
 static int open_copy(void)
 {
 	int fd = -1;
@@ -276,12 +275,12 @@ static int open_copy(void)
 	return open("/proc/self/fd", KEEPS_PATH);
 }
 
-/* Makes the folder the root of the process, in a namespace of its own, with nothing else in it. Opens
- * /proc/self/fd before. 0, or -1: it failed, and said why.
+/* Makes the shared directory the root of the process, in new namespaces, with nothing else in it. Opens
+ * /proc/self/fd before that. On error prints a message and returns -1.
  *
- * Mounts become slaves: what the host mounts or unmounts below the folder later is seen here, and
- * nothing that is done here is seen there. The folder is mounted on itself, since pivot_root(2) takes
- * a mount; and with "." for both the old root lies on the new one, from where it is unmounted. */
+ * Mounts become slaves: a mount that the host makes or removes below the directory later is visible here, but not
+ * the other way round. The directory is mounted on itself, because pivot_root(2) requires a mount. With "." for
+ * both arguments the old root is mounted on the new one, and is unmounted from there. */
 static int pivot(const char *folder, int *proc)
 {
 	if (unshare(CLONE_NEWNS | CLONE_NEWNET | CLONE_NEWIPC | CLONE_NEWUTS) ||
@@ -300,8 +299,8 @@ static int pivot(const char *folder, int *proc)
 	return 0;
 }
 
-/* What who isn't root has in namespaces of its own: by these it could do more with its own files.
- * (Root's workers limit themselves, in passthrough_who.c.) */
+/* Drops the capabilities that a user other than root has in its own namespaces, because with them it could do more
+ * with its own files. (Root's workers drop theirs in passthrough_who.c.) */
 static int drop_capabilities(void)
 {
 	struct __user_cap_header_struct header = { _LINUX_CAPABILITY_VERSION_3, 0 };
@@ -310,9 +309,9 @@ static int drop_capabilities(void)
 	return syscall(SYS_capset, &header, none) ? failed("drop capabilities") : 0;
 }
 
-/* Whether no device can be opened from now on in the mount of the root and in the mounts below it: all of them become
- * nodev, because root's server may make a device in any of them. What the host mounts below the folder later has the
- * flags that the host gives it. Linux has the call since 5.12. */
+/* Makes the mount of the root and the mounts below it nodev, so that no device in them can be opened, because
+ * root's server may create a device in any of them. A mount that the host makes below the directory later has the
+ * flags that the host gives it. Returns false if Linux is older than 5.12. */
 static bool refuse_devices(void)
 {
 #ifdef MOUNT_ATTR_NODEV
@@ -367,9 +366,9 @@ int sandbox_enter(enum sandbox sandbox, const char *folder, int *root, int *proc
 #ifdef WITH_SECCOMP
 const bool has_filter = true;
 
-/* What a server calls, its threads and its C library; some by other names on other processors. None
- * executes a program, traces another process, mounts, or makes a socket. Those whose arguments decide what they do are
- * not in this list: let_limited(). */
+/* The system calls of the server, its threads and its C library; some have other names on other processors. None
+ * executes a program, traces another process, mounts, or creates a socket. Calls that are permitted only with some
+ * arguments are in let_limited(). */
 static const char *const calls[] = {
 	"accept4",
 	"brk",
@@ -475,12 +474,12 @@ static const char *const calls[] = {
 	"writev",
 };
 
-/* And to hold files by handles, or tell the handles alone. By one that is made up any file of the file
- * system is opened. */
+/* The system calls for file handles. With an invented handle, open_by_handle_at(2) can open any file of the file
+ * system. */
 static const char *const handle_calls[] = { "name_to_handle_at", "open_by_handle_at" };
 
-/* And by ioctl: a worker's descriptor of the device; whether what is written to is a terminal. (Others would let it
- * type at a terminal.) */
+/* The permitted ioctls: cloning the device for a worker, and checking whether a descriptor is a terminal. (With
+ * others the server could type at a terminal.) */
 static const uint32_t controls[] = { FUSE_DEV_IOC_CLONE, TCGETS };
 
 /* And by fcntl: flags, copies of descriptors, the size of a pipe, and locks of open files. Others, as F_SETOWN, would
@@ -561,8 +560,9 @@ static int let_limited(scmp_filter_ctx rules)
 	return error;
 }
 
-/* Lets through those that use rings which are there. By a ring that it made itself a server would call what it likes;
- * so io_uring_register(2) may only enable a ring that was made disabled. A thread moves itself alone to a processor. */
+/* Permits the use of existing rings. With a ring that it creates itself a server could make any system call, so
+ * io_uring_register(2) may only enable a ring that was created disabled. A thread may change only its own
+ * processor. */
 static int let_rings(scmp_filter_ctx rules)
 {
 	const uint32_t itself = 0, enable = IORING_REGISTER_ENABLE_RINGS;
@@ -575,7 +575,7 @@ static int let_rings(scmp_filter_ctx rules)
 	return error;
 }
 
-/* No rules: what isn't let through comes to what is said. NULL: it failed, and said why. */
+/* Creates an empty filter, with an action for all other system calls. On error prints a message and returns NULL. */
 static scmp_filter_ctx begin_rules(enum calls_filter filter)
 {
 	const uint32_t otherwise = filter == FILTER_KILL ? SCMP_ACT_KILL_PROCESS :
@@ -599,11 +599,12 @@ static int end_rules(scmp_filter_ctx rules, int error)
 	return error ? failed("load the --seccomp filter") : 0;
 }
 
-/* What the process calls that names files; and by ioctl and fcntl, of the device and of what it was given. */
+/* The system calls of the process that registers files; ioctl(2) and fcntl(2) are permitted only for the device
+ * and for files that it was given. */
 static const char *const backing_calls[] = { "close",  "exit_group", "recvmsg",
 					     "sendto", "statx",	     "restart_syscall" };
 
-/* Lets it watch single files, by a group that is there, and get their handles. */
+/* Permits to watch files by an existing fanotify group, and to get their handles. */
 static int let_watch(scmp_filter_ctx rules)
 {
 	static const uint32_t how[] = { FAN_MARK_ADD, FAN_MARK_REMOVE };

@@ -23,7 +23,7 @@ static int failed(const char *action)
 	return -1;
 }
 
-/* Whether someone listens there. (syslog(3) doesn't tell.) */
+/* Returns whether a system log listens. (syslog(3) does not report that.) */
 static bool is_there(void)
 {
 	const struct sockaddr_un log = { AF_UNIX, _PATH_LOG };
@@ -43,7 +43,7 @@ static _Noreturn void log_lines(int from)
 	FILE *lines = fdopen(from, "r");
 	char line[1024];
 
-	/* (a signal of the terminal is for the others, and what they say then is to be logged too) */
+	/* (signals of a terminal are for the other processes, whose last messages must be logged too) */
 	signal(SIGINT, SIG_IGN);
 	signal(SIGTERM, SIG_IGN);
 	signal(SIGHUP, SIG_IGN);
@@ -81,7 +81,7 @@ int syslog_start(void)
 	pid_t child;
 
 	if (!is_there())
-		/* (that is no error, as nobody would be told of it later either) */
+		/* (not an error, because a log that disappears later would not be noticed either) */
 		return failed("connect to '" _PATH_LOG "'"), 0;
 	if (pipe2(ends, O_CLOEXEC))
 		return failed("create a pipe");
@@ -94,6 +94,6 @@ int syslog_start(void)
 		return failed("start the logging process");
 	}
 	close(ends[1]);
-	/* (a log that is slow holds up no request: what it doesn't take is left out) */
+	/* (a slow log must not block a request: lines that it does not accept are dropped) */
 	return fcntl(STDERR_FILENO, F_SETFL, O_WRONLY | O_NONBLOCK) ? failed("set up the pipe") : 0;
 }

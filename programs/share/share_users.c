@@ -1,10 +1,10 @@
-/* The namespace of users of a share: share_users.h. share_sandbox.c enters it first, in the process that
- * stands by and before that forks, since it gives who isn't root the capabilities that the other
- * namespaces take. There is one thread.
+/* The user namespace of a server that does not run as root: share_users.h. share_sandbox.c enters it first, in the
+ * parent and before it forks, because it provides the capabilities that the other namespaces require. There is one
+ * thread.
  *
- * By itself a user may map its own id alone. More are mapped by newuidmap(1) and newgidmap(1), which
- * are set-user-ID and look whether root gave this user those ids; they do so from outside of the
- * namespace, so a process is forked before it is made. */
+ * Without privileges a user may map only its own id. newuidmap(1) and newgidmap(1), which are set-user-ID, map
+ * more ids if root has assigned them to this user. They must run outside of the namespace, so a process is forked
+ * before it is created. */
 #define _GNU_SOURCE
 #include <errno.h>
 #include <fcntl.h>
@@ -95,9 +95,9 @@ static pid_t begin_outside(const int ends[2], const struct id_map *uids, const s
 	      (by_gid && !run("newgidmap", of, gids)));
 }
 
-/* Makes the namespace, and has its maps written: 0, or -1: it failed, and said why. Linux lets who
- * isn't root map the own group only where setgroups(2) is given up before, by which a process could
- * leave a group that denies it something. */
+/* Creates the namespace and has its maps written. On error prints a message and returns -1. Without root, Linux
+ * permits to map the own group only after setgroups(2) is disabled, because with that call a process could leave a
+ * group that denies it access. */
 static int leave(const int ends[2], const struct id_map *uids, const struct id_map *gids)
 {
 	const bool own_uid = is_own(uids, geteuid()), own_gid = is_own(gids, getegid());

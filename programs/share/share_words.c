@@ -1,11 +1,9 @@
-/* The words of a share: share_words.h. It runs first, in one thread, with the
- * rights and in the folder that the program was started with; what it leaves in `words` doesn't change
- * from then on, but for what main() finds out.
+/* The command line of nizwarf-share: share_words.h. It is parsed first, in one thread, with the privileges and in
+ * the directory in which the program was started. After that, only main() changes `words`.
  *
- * Words come from a person, from a manager of machines, which writes them as for virtiofsd, or from
- * mount(8), as a line of fstab(5) says them (share_helped.c). The same is served whether a word is
- * said as --no-readdirplus or, by -o, as no_readdirplus. What can't be ends the program with status 2,
- * and is named. */
+ * Options are given by a person, by a manager of virtual machines that writes them as for virtiofsd, or by
+ * mount(8) from a line of fstab(5) (share_helped.c). An option may be written as --no-readdirplus or, with -o, as
+ * no_readdirplus. An invalid option ends the program with status 2 and a message that names it. */
 #define _GNU_SOURCE
 #include <ctype.h>
 #include <errno.h>
@@ -27,7 +25,7 @@
 /* How many descriptors, files that a client knows, and workers there may be, if nothing else is said. */
 enum { MOST_FILES = 1000000, MOST_NODES = 10000000, WORKERS = 4 };
 
-/* What is so without a word. */
+/* The defaults. */
 struct share_words words = {
 	.files = { .cache = CACHE_AUTO,
 		   .backing = -1,
@@ -168,8 +166,8 @@ static bool take_switch(const char *key)
 	return false;
 }
 
-/* Takes the rules of attributes, and finds what they make of the name of a file's capabilities. The
- * rules stay for good; if some are said twice the last ones hold. */
+/* Parses the rules of --xattrmap, and finds the name that they give to file capabilities. The rules are never
+ * freed; if the option is repeated, the last one applies. */
 static void take_xattr_map(const char *rules)
 {
 	static struct xattr_name capability;
@@ -216,8 +214,8 @@ static bool take_setting(const char *key, char *value)
 	return true;
 }
 
-/* Takes an option that mount(8) and others read in fstab(5), and no file system. Whether it is one.
- * With nofail a folder that isn't there is no error. */
+/* Accepts an option that mount(8) and other programs read from fstab(5), but file systems do not. Returns whether
+ * it is one. With nofail a directory that does not exist is not an error. */
 static bool take_of_others(const char *key)
 {
 	static const char *const known[] = { "defaults", "auto",    "noauto",  "user",	  "nouser",
@@ -267,9 +265,9 @@ static _Noreturn void refuse_option(const char *key, const char *value)
 
 static bool take_as_word(const char *key, char *value);
 
-/* Takes one option: a word, or KEY=VALUE. What is none of those above may be a word of --help without
- * its dashes. What is none at all is refused, unless mount(8) was started with -s, or changes a mount,
- * whose options the kernel listed. */
+/* Parses one option of -o: a name, or KEY=VALUE. An option that is not one of those above may be a long option
+ * without its dashes. An unknown option is refused, unless mount(8) has passed -s, or changes a mount, whose
+ * options the kernel listed. */
 static void take_option(const char *key, char *value)
 {
 	if ((value ? take_setting(key, value) : take_flag(key) || take_switch(key)) || take_of_others(key))
@@ -322,11 +320,10 @@ void take_options(char *rest)
 	}
 }
 
-/* The words, from a number on that no letter has. Their order has a meaning: those from CACHE to TRACE
- * say what is served, and how, and so are taken as options too; those from MIGRATION_MODE to
- * CONFIRM_PATHS are of a machine that migrates. */
+/* The long options, as numbers above those of letters. Their order matters: those from CACHE to TRACE are accepted
+ * by -o too; those from MIGRATION_MODE to CONFIRM_PATHS are for migration. */
 enum word {
-	/* Which folder, where, and who may connect. */
+	/* The directory, where it is served, and who may connect. */
 	SHARED_DIR = 256,
 	SOCKET_PATH,
 	FD,
@@ -340,7 +337,7 @@ enum word {
 	VERIFY_HANDLES,
 	UNLINKED_FILES,
 	CONFIRM_PATHS,
-	/* What the client may remember, and do by itself. */
+	/* Caching. */
 	CACHE,
 	ALLOW_MMAP,
 	ALLOW_DIRECT_IO,
@@ -352,7 +349,7 @@ enum word {
 	POSIX_ACL,
 	FLOCK,
 	POSIX_LOCK,
-	/* Over a mount: what its kernel does by itself, and is told. */
+	/* Features of a mount's kernel. */
 	PASSTHROUGH,
 	WATCH,
 	/* What of the folder is shown, and changed. */
@@ -366,7 +363,7 @@ enum word {
 	/* How much is held of it, and by what. */
 	NODE_LIMIT,
 	FILE_HANDLES,
-	/* With what the process works, and what it may. */
+	/* Resources and privileges of the process. */
 	MODCAPS,
 	POOL,
 	NOFILE,
@@ -376,7 +373,7 @@ enum word {
 	/* Whose a file is. */
 	TRANSLATE_UID,
 	TRANSLATE_GID,
-	/* Which calls it makes, and what it says. */
+	/* System calls and messages. */
 	SECCOMP,
 	LOG,
 	TRACE,
@@ -388,7 +385,7 @@ enum word {
 };
 
 static const struct option known_words[] = {
-	/* The folder, and where it is served: below they stand as in the enum. */
+	/* The directory, and where it is served. The order is that of the enum. */
 	{ "shared-dir", required_argument, NULL, SHARED_DIR },
 	{ "socket-path", required_argument, NULL, SOCKET_PATH },
 	/* (virtiofsd's word of old) */
@@ -444,8 +441,8 @@ static const struct option known_words[] = {
 	{ 0 },
 };
 
-/* What is printed, and all then: status 0, or 1 if it couldn't be written. The features are those of
- * vhost-user back ends, which managers of machines ask for. */
+/* Prints the text of an option and exits with status 0, or 1 if it cannot be written. The features are those of
+ * vhost-user back ends, which managers of virtual machines query. */
 static _Noreturn void print(int word)
 {
 	if (word == PRINT)
@@ -482,7 +479,7 @@ static void take_range(const char *key, char *rest, struct id_map *map)
 	*range = (struct id_range){ (uint32_t)value[0], (uint32_t)value[1], (uint32_t)value[2] };
 }
 
-/* A rule of ids, which ids_add() reads. What is wrong is said by its own words, and ends the program. */
+/* Adds a rule of --translate-uid or --translate-gid. An invalid rule ends the program. */
 static void take_translation(const char *key, const char *rule, struct ids *ids)
 {
 	const char *why = ids_add(ids, rule);
@@ -499,7 +496,7 @@ static bool take_plain(int word)
 		int word;
 		bool is;
 	} known[] = {
-		/* What it is, the word, and what that says of it. */
+		/* The field, the option, and the value that it sets. */
 		{ &words.logs, SYSLOG, true },
 		{ &words.files.verifies, VERIFY_HANDLES, true },
 		{ &words.files.takes_unlinked, UNLINKED_FILES, true },
@@ -532,7 +529,7 @@ static bool take_plain(int word)
 	return false;
 }
 
-/* Takes a word of what is served, and how: one from CACHE to TRACE. */
+/* Handles an option from CACHE to TRACE. */
 static void take_served(int word)
 {
 	static const char *const caches[] = { "never", "auto", "always", "metadata", NULL };
@@ -554,7 +551,7 @@ static void take_served(int word)
 	case MIGRATION_ON_ERROR:
 		words.files.loses_files = one_of("--migration-on-error", optarg, on_errors) == 1;
 		break;
-	/* What is served of the folder. */
+	/* The files. */
 	case CACHE:
 		words.files.cache = (enum passthrough_cache)one_of("--cache", optarg, caches);
 		break;
@@ -570,7 +567,7 @@ static void take_served(int word)
 		words.files.file_handles =
 			which <= HANDLES_ALONE ? (enum file_handles)which : HANDLES_PREFERRED;
 		break;
-	/* With what the process works. */
+	/* Resources and privileges. */
 	case MODCAPS:
 		take_capabilities(optarg);
 		break;
@@ -587,7 +584,7 @@ static void take_served(int word)
 		words.most_files = number("--rlimit-nofile", optarg, 0, INT_MAX);
 		words.wants_files = true;
 		break;
-	/* What it may, and as whom. */
+	/* Sandbox and ids. */
 	case SANDBOX:
 		words.sandbox = one_of("--sandbox", optarg, sandboxes);
 		break;
@@ -606,7 +603,7 @@ static void take_served(int word)
 	case SECCOMP:
 		words.filter = one_of("--seccomp", optarg, filters);
 		break;
-	/* What it says. */
+	/* Messages. */
 	case LOG:
 		take_log_level(optarg);
 		break;
@@ -619,8 +616,7 @@ static void take_served(int word)
 	}
 }
 
-/* Takes a word that getopt_long(3) found: `optarg` is its value, or NULL. They are words of this
- * process, or else of what is served. */
+/* Handles an option that getopt_long(3) found; `optarg` is its argument, or NULL. */
 static void take_word(int word)
 {
 	switch (word) {
@@ -680,8 +676,8 @@ static enum values values_of_word(const char *key)
 	return NO_OPTION;
 }
 
-/* Takes an option that is a word, if it is one of what is served, and how. Whether it is one. Where a
- * value is missing, or there is one too many, it is none. */
+/* Handles an option of -o that is a long option from CACHE to TRACE. Returns whether it is one and has an argument
+ * exactly if it requires one. */
 static bool take_as_word(const char *key, char *value)
 {
 	for (const struct option *word = known_words; word->name; word++) {
@@ -719,7 +715,7 @@ bool is_mount(void)
  * piece of memory, the pointers first, and stay for good, as `words` leads into them. */
 static char **copies_of(int count, char **given)
 {
-	/* (volatile: the compiler would drop what is never read, and a sanitizer find a leak) */
+	/* (volatile, because otherwise the compiler would remove the pointer, and a sanitizer would report a leak) */
 	static char **volatile copies;
 	size_t size = ((size_t)count + 1) * sizeof(*given), len;
 	char *at;
@@ -741,13 +737,13 @@ static char **copies_of(int count, char **given)
 	return copies;
 }
 
-/* Takes what a person or a manager of machines gives. The folder and the mount point may stand after
- * the words, or the folder be said by one of them. */
+/* Parses the arguments that a person or a manager of virtual machines gave. The directory and the mount point may
+ * follow the options, or the directory may be given by an option. */
 static void take_given(int count, char **given)
 {
 	for (int found, i = -1; (found = getopt_long(count, given, ":dfho:V", known_words, &i)) != -1;
 	     i = -1) {
-		/* (a value may stand after it, as a word of its own) */
+		/* (the argument may be the next word) */
 		const char *word = given[optind - 1 - (optarg == given[optind - 1])];
 
 		/* (getopt_long(3) takes a beginning for the word, where it is that of one alone: it is
@@ -765,12 +761,12 @@ static void take_given(int count, char **given)
 		refuse_usage("unexpected argument '%s'", given[optind]);
 }
 
-/* It comes back with words that go together, or not at all. What wasn't said is filled in here, where
- * it depends on what was: the sandbox and the filter are the strictest that there are. */
+/* Returns only if the options are valid and can be combined. Options that were not given and depend on others are
+ * set here: the defaults of sandbox and filter are the strictest that are available. */
 void take_words(int count, char **given)
 {
 	given = copies_of(count, given);
-	/* (what is wrong is said by refuse_word(), as all else here) */
+	/* (messages are printed by refuse_word()) */
 	opterr = 0;
 	if (is_started_by_mount(given[0]))
 		take_from_mount(count, given);
@@ -788,6 +784,6 @@ void take_words(int count, char **given)
 		words.flags |= MS_RDONLY;
 	if (words.flags & MS_RDONLY)
 		words.files.read_only = true;
-	/* (it ends here if mount(8) wants nothing done, or a mount changed that is there) */
+	/* (this exits if mount(8) only checks the arguments or changes an existing mount) */
 	end_helped();
 }
