@@ -20,12 +20,12 @@
 
 /* How long a client may remember, in milliseconds. */
 enum { NO_TIME = 0, LONG_TIME = 86400000 };
-/* The rows that are offered, besides locks. */
+/* The enabled features, besides locks. */
 enum { OFFERS = NIZWARF_FEATURE_STATX | NIZWARF_FEATURE_COPY_64 | NIZWARF_FEATURE_TMPFILE };
 /* How many descriptors a call of a worker opens and closes again: of two nodes, and one more. */
 enum { PASSING = 3 };
 
-/* ---- pieces of requests and rooms */
+/* ---- pieces of requests and reply buffers */
 
 /* Adds a piece, which is cut at `*left`. */
 static bool add_piece(struct worker *w, size_t *count, void *at, size_t len, size_t *left)
@@ -51,7 +51,7 @@ static ssize_t find_data(struct worker *w, const nizwarf_call *asked, const stru
 		const size_t past = skip < request[i].iov_len ? skip : request[i].iov_len;
 
 		skip -= past;
-		/* (pwritev takes pointers to what it only reads) */
+		/* (pwritev(2) requires pointers to non-constant data) */
 		if (!add_piece(w, &count, (uint8_t *)(uintptr_t)request[i].iov_base + past,
 			       request[i].iov_len - past, &left))
 			return -1;
@@ -59,7 +59,7 @@ static ssize_t find_data(struct worker *w, const nizwarf_call *asked, const stru
 	return (ssize_t)count;
 }
 
-/* The room for the data of a READ: -1, or how many pieces. */
+/* Finds the part of the reply buffer for the data of a READ. Returns the number of pieces, or -1. */
 static ssize_t find_room(struct worker *w, const nizwarf_call *asked, const struct iovec *room, size_t rooms)
 {
 	size_t count = 0, skip = HEADER, left = nizwarf_read_max(asked);
@@ -97,7 +97,7 @@ static void agree_on(struct passthrough *all, unsigned client, uint64_t options)
 	pthread_mutex_unlock(&all->agreeing);
 }
 
-/* Makes the call, and gives back what the client doesn't get. */
+/* Makes the call, and undoes lookups and opens that the client does not get. */
 static int32_t answer_call(struct call *call, const nizwarf_session *session, const struct iovec *room,
 			   size_t rooms, ssize_t pieces, nizwarf_result *result)
 {
@@ -112,7 +112,7 @@ static int32_t answer_call(struct call *call, const nizwarf_session *session, co
 	/* (who waits for the lock answers it) */
 	if (answer->error == LOCK_WAITS && asked->opcode == NIZWARF_SETLKW)
 		return NIZWARF_CALL;
-	/* (the slot that it was asked with has memory for the reply) */
+	/* (the scratch memory that decoded the request suffices for the reply) */
 	code = nizwarf_encode(&call->worker->slot, session, asked, answer, room, rooms, result);
 	if (asked->opcode == NIZWARF_INIT || asked->opcode == NIZWARF_DESTROY)
 		agree_on(all, call->client, result->options);
@@ -140,8 +140,8 @@ static bool gives_back(const struct iovec *request)
 	       header.opcode == FUSE_DESTROY;
 }
 
-/* The request in one piece, which the codec asks with fewer steps. (If it isn't in one, it is a WRITE, of which the codec
- * reads the first alone; and after that is memory for all of it.) */
+/* Returns the request in one piece, which the codec decodes faster. (If it is not in one piece, it is a WRITE, of
+ * which the codec reads only the first piece; the memory after that suffices for all of it.) */
 static struct iovec in_one(const struct iovec *request, size_t segments)
 {
 	struct iovec whole = { request->iov_base, 0 };
@@ -151,7 +151,7 @@ static struct iovec in_one(const struct iovec *request, size_t segments)
 	return whole;
 }
 
-/* Asks what a request asks for. One that gives something back waits for memory, up to ten seconds. */
+/* Decodes a request. If memory is short, a request that releases something waits for up to ten seconds. */
 static int32_t ask(struct worker *w, const nizwarf_session *session, uint32_t offers,
 		   const struct iovec *request, const struct iovec *room, size_t rooms, nizwarf_call *asked,
 		   nizwarf_result *result)
@@ -239,7 +239,8 @@ void passthrough_finish(void *user, unsigned worker)
 	nizwarf_scratch_free(&w->slot);
 }
 
-/* What a client had that has gone, out of the tables. It is freed by who closes it. */
+/* The objects of a client that has disconnected, removed from the tables. It is freed by the thread that closes
+ * them. */
 struct left {
 	struct passthrough *all;
 	struct holder *locks;
@@ -362,7 +363,7 @@ static void set_times(struct passthrough *all)
 	all->entry_time = options->entry_time == AS_CACHE_SAYS ? time : options->entry_time;
 	all->attr_time = options->attr_time == AS_CACHE_SAYS ? time : options->attr_time;
 	all->file_time = all->attr_time;
-	/* (what it writes by itself to a mapping doesn't change the times that it remembers) */
+	/* (with passthrough, a client does not notice the times that change by writes to its mappings) */
 	if (options->passthrough && options->attr_time == AS_CACHE_SAYS && time > SHORT_TIME)
 		all->file_time = SHORT_TIME;
 }
@@ -378,7 +379,7 @@ struct passthrough *passthrough_new(int root, int proc, const struct passthrough
 	set_times(all);
 	all->offers = OFFERS | (options->flock || options->posix_lock ? NIZWARF_FEATURE_LOCKS : 0) |
 		      (options->passthrough ? NIZWARF_FEATURE_INIT : 0);
-	/* What is not remembered is not written later: the kernel would tell of times that are not so. */
+	/* Without a cache of attributes there is no writeback cache: the kernel would return wrong times. */
 	if (options->cache == CACHE_NEVER || options->cache == CACHE_METADATA)
 		all->options.writeback = false;
 	for (unsigned i = 0; i < options->workers && i < TRANSPORT_MOST_WORKERS; i++) {

@@ -1,18 +1,16 @@
-/* Files that a client's kernel reads and writes by itself: passthrough_backing.h.
+/* Files that a client's kernel reads and writes itself: passthrough_backing.h. As long as a file is open, Linux
+ * accesses it either by its cache or by passthrough, and with a single backing file: an open of the other kind
+ * fails. So the first open of a node decides for all, until the RELEASE of the last one, which Linux sends once it
+ * has released the backing file. A file that cannot be registered, because of memory, a limit, or too many stacked
+ * file systems, is read and written by requests as usual.
  *
- * Linux has a file either in its cache or by itself, as long as one open of it lasts, and by one number:
- * an open that is otherwise fails. So the first open of a node says how all are, up to the last one's
- * RELEASE, of which Linux tells once it has let go. What can't be had by itself, since there is no memory
- * or no number, or since file systems are over one another too deep, is read and written by requests as
- * without.
+ * If an open requires something that Linux would not do, the file is registered, but used only for its mappings;
+ * reads and writes are requests that bypass the cache. This applies to O_APPEND, which Linux keeps as it was at
+ * first; to O_DIRECT, whose rules differ from those of requests; and to a file with a set-user-ID or set-group-ID
+ * bit, which not every writer clears.
  *
- * Where an open wants what Linux would not do, it has the file by itself in name alone: its mappings are
- * the file's, and its reads and writes are requests that go by no cache. So it is with O_APPEND, which
- * Linux keeps as it was at first; with O_DIRECT, which has rules that requests have not; and with a file
- * that has a set-user-ID or set-group-ID bit, which not every writer takes away.
- *
- * Workers call it. `lock` guards the chains, and how often each node is open; `asking` is held while
- * the other process is asked, which may take seconds, and neither is taken under the other. */
+ * Workers call it. `lock` protects the chains, and how often each node is open; `asking` is held while the other
+ * process handles a request, which may take seconds. The two locks are never held together. */
 #define _GNU_SOURCE
 #include <errno.h>
 #include <fcntl.h>
@@ -40,9 +38,9 @@ struct backing {
 
 struct backings {
 	int socket;
-	/* No number is to be had any more. */
+	/* No more files can be registered. */
 	atomic_bool is_over;
-	/* One asks at a time. */
+	/* Serializes requests to the other process. */
 	pthread_mutex_t asking;
 	pthread_mutex_t lock;
 	struct backing *chains[CHAINS];
@@ -70,7 +68,7 @@ void backings_free(struct backings *all)
 	free(all);
 }
 
-/* No number is to be had from now on, which is said once. */
+/* Stops registering files, and prints a message once. */
 static void end_numbers(struct backings *all, int error)
 {
 	if (!atomic_exchange(&all->is_over, true))
@@ -79,14 +77,14 @@ static void end_numbers(struct backings *all, int error)
 			      strerror(error));
 }
 
-/* A descriptor by which the file is named: of one that is opened for writing its owner could not run the file as long
- * as somebody reads it. -1: there is none. */
+/* Opens the file again for registration, because the owner of a file that is open for writing could not execute it
+ * as long as somebody reads it. Returns -1 on error. */
 static int open_to_name(const struct call *call, int fd)
 {
 	return open_again(&call->all->nodes, fd, O_RDONLY | O_NONBLOCK | O_NOCTTY);
 }
 
-/* The number of an open file; 0: there is none. */
+/* Registers an open file and returns its number, or 0. */
 static int number_of(const struct call *call, int fd)
 {
 	struct backings *all = call->all->backings;
@@ -100,7 +98,7 @@ static int number_of(const struct call *call, int fd)
 	if (!atomic_load(&all->is_over))
 		number = fuse_backing_open(all->socket, named);
 	pthread_mutex_unlock(&all->asking);
-	/* (another may be of this file alone: for the next one it is asked again) */
+	/* (other errors may concern only this file: the next one is tried again) */
 	if (number == -EPIPE || number == -EPERM)
 		end_numbers(all, -number);
 	if (!is_read)
@@ -129,8 +127,8 @@ static struct backing **chain_of(struct backings *all, uint64_t node)
 	return &all->chains[(node ^ node >> 10) % CHAINS];
 }
 
-/* Adds an open of a node, which `made` is of, if that isn't NULL and there is no other: what it was
- * added to, or NULL. */
+/* Adds an open of a node. If it is the first one, it becomes `made`, unless that is NULL. Returns the open, or
+ * NULL. */
 static struct backing *add_open(struct backings *all, uint64_t node, struct backing *made)
 {
 	struct backing *found, **chain = chain_of(all, node);
@@ -150,7 +148,7 @@ static struct backing *add_open(struct backings *all, uint64_t node, struct back
 	return found;
 }
 
-/* (no answer is waited for: so this may be done by any thread, while another one asks) */
+/* (this does not wait for a reply, so any thread may do it while another one waits for one) */
 static void free_backing(struct backing *backing)
 {
 	if (backing->number)
@@ -166,8 +164,8 @@ int backing_take(const struct call *call, uint64_t node, int fd, struct backing 
 	*taken = NULL;
 	if (!all || !(atomic_load(&call->all->agreed) & NIZWARF_PASSTHROUGH))
 		return 0;
-	/* The number is asked for without the lock, so another open of the node may be the first one
-	 * meanwhile: then the node is as that is. */
+	/* The file is registered without the lock, so another open of the node may be the first one meanwhile;
+	 * then that one decides. */
 	found = add_open(all, node, NULL);
 	if (!found) {
 		made = calloc(1, sizeof(*made));
@@ -216,7 +214,7 @@ int backing_tell(const struct call *call, const struct backing *backing, int fd)
 
 	if (!backing)
 		return 0;
-	/* (what was read by requests may be old) */
+	/* (data that were read by requests may be outdated) */
 	answer->open_flags &= ~(uint32_t)FOPEN_KEEP_CACHE;
 	if (!backing->number)
 		return 0;

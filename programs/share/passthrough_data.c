@@ -1,10 +1,8 @@
-/* A passthrough's open files: their data, and which call does what with one. passthrough_call.c takes the
- * node and the open file in hand, and calls make_of_file(); workers run it, any number of them with one
- * open file at once.
+/* Open files of a passthrough: their data, and which call uses them. passthrough_call.c gets references to the
+ * node and the open file, and calls make_of_file(); any number of workers may use one open file at once.
  *
- * A client says which open file it means, and where it reads or writes. It may do with that file what
- * the descriptor was opened for, to which the host sees. Places that would be below 0 to the host are
- * refused. */
+ * A client sends the handle of the open file, and an offset. The host checks that the file was opened for that
+ * access. Offsets that would be negative on the host are refused. */
 #define _GNU_SOURCE
 #include <errno.h>
 #include <fcntl.h>
@@ -14,7 +12,7 @@
 #include <unistd.h>
 #include "passthrough_call.h"
 
-/* The most that is copied at once, and a page, in bytes. (A client asks again for what is left.) */
+/* The largest copy at once, and the size of a page, in bytes. (A client requests the rest again.) */
 enum { COPIED = 1 << 30, PAGE = 4096 };
 
 bool writes_later(const struct call *call)
@@ -22,8 +20,7 @@ bool writes_later(const struct call *call)
 	return atomic_load(&call->all->agreed) & FUSE_WRITEBACK_CACHE && call->all->options.writeback;
 }
 
-/* Leaves out of the pieces what was moved, which is no more than they have. They are the worker's own
- * list, so they may be changed. */
+/* Removes the first `moved` bytes from the list of pieces, which belongs to the worker and so may be changed. */
 static void move_on(struct iovec **data, size_t *pieces, size_t moved)
 {
 	while (*pieces && moved >= (*data)->iov_len) {
@@ -47,9 +44,9 @@ static ssize_t move(int fd, bool is_read, const struct iovec *data, int pieces, 
 	return is_read ? preadv(fd, data, pieces, at) : pwritev(fd, data, pieces, at);
 }
 
-/* READ and WRITE: of all that is there, right from or into the pieces. A READ ends early at the end of
- * the file, a WRITE where the host takes no more; what was moved before an error is answered, but for
- * a WRITE out of a cache. */
+/* READ and WRITE, directly from or to the pieces. A READ ends at the end of the file, and a WRITE when the host
+ * accepts no more. If some bytes were transferred before an error, their number is returned, except for a WRITE
+ * out of a cache. */
 static int transfer(const struct call *call)
 {
 	const nizwarf_call *asked = call->asked;
@@ -84,7 +81,7 @@ static int transfer(const struct call *call)
 
 		if (moved < 0 && errno == EINTR)
 			continue;
-		/* (of what a kernel writes later it doesn't look at how much was written) */
+		/* (a kernel with a writeback cache ignores how many bytes were written) */
 		if (moved < 0 && (!done || asked->has & NIZWARF_WRITE_CACHE))
 			return errno;
 		if (moved <= 0)
@@ -104,11 +101,10 @@ static int read_file(const struct call *call)
 	return transfer(call);
 }
 
-/* Has a file written at its end, or not, up to let_write(): as its flags are with who has it open, which
- * may map it, or change them. 0, or an error: the host lets some files be appended to alone (chattr +a).
- *
- * The flag is the descriptor's, and all WRITEs of the open file share it. Who wants it as it is holds
- * the lock for reading, so they run at once; who changes it holds it for writing, and writes alone. */
+/* Sets or clears O_APPEND until let_write(), according to the client's current flags. Returns 0 or an error,
+ * because some files can only be appended to (chattr +a). The flag belongs to the descriptor, which all WRITEs of
+ * the open file share. A WRITE that needs it as it is locks `writing` for reading, so such WRITEs run at once; one
+ * that changes it locks for writing, and runs alone. */
 static int hold_write(struct open_file *file, bool at_end)
 {
 	int flags, error = 0;
@@ -136,8 +132,8 @@ static void let_write(struct open_file *file)
 	pthread_rwlock_unlock(&file->writing);
 }
 
-/* What a client's kernel writes out of its cache lies anywhere, and ends where the file does, which
- * O_DIRECT doesn't take: such a file goes by the host's cache from then on. */
+/* Clears O_DIRECT. Data that a client's kernel writes out of its cache are not aligned as O_DIRECT requires, so
+ * such a file uses the host's cache from then on. */
 static int leave_direct(const struct call *call)
 {
 	struct open_file *file = call->file;
@@ -157,8 +153,8 @@ static int leave_direct(const struct call *call)
 	return error;
 }
 
-/* Whether a WRITE goes to where its file ends by then, as who writes has it open. What the kernel had in its cache
- * has a place of its own; and one that writes later knows the end itself. */
+/* Returns whether a WRITE is an append to the current end of the file. Data out of the kernel's cache have an
+ * offset, and with a writeback cache the kernel determines the end itself. */
 static bool is_append(const struct call *call)
 {
 	const nizwarf_call *asked = call->asked;
@@ -210,7 +206,8 @@ static int seek(const struct call *call)
 
 	if ((whence != SEEK_DATA && whence != SEEK_HOLE) || call->file->is_directory)
 		return EINVAL;
-	/* What the kernel has yet to write is a hole to the host. Refused once, it answers by the size. */
+	/* To the host, data that the kernel has not written yet are a hole. If this fails once, the kernel uses
+	 * the size. */
 	if (writes_later(call))
 		return ENOSYS;
 	/* (the place of the descriptor, which this moves, is used by nobody: data are read and written
@@ -220,8 +217,8 @@ static int seek(const struct call *call)
 	return failed(at < 0 ? -1 : 0);
 }
 
-/* COPY_FILE_RANGE, from the call's open file to another one, which is in hand up to the end. What
- * isn't copied the client asks for again. At EXDEV and EOPNOTSUPP its kernel copies by READ and WRITE. */
+/* COPY_FILE_RANGE, from the call's open file to another one, to which it has a reference. The client requests the
+ * rest again. On EXDEV and EOPNOTSUPP its kernel copies by READ and WRITE. */
 static int copy_range(const struct call *call)
 {
 	const nizwarf_call *asked = call->asked;
@@ -236,7 +233,7 @@ static int copy_range(const struct call *call)
 	/* (no flag has a meaning yet) */
 	error = from < 0 || to < 0 || nizwarf_copy_flags(asked) ? EINVAL :
 								  lose_capability(call, into->counted.fd);
-	/* (copy_file_range(2) refuses what is open with O_APPEND) */
+	/* (copy_file_range(2) refuses a file with O_APPEND) */
 	if (!error)
 		error = hold_write(into, false);
 	if (!error) {
@@ -251,9 +248,9 @@ static int copy_range(const struct call *call)
 	return error;
 }
 
-/* Tells the host that a descriptor of the file is closed, as it may have an error to tell, and gives
- * up the locks of whose it was. (A copy is closed, since the file stays open; by that a process loses
- * its locks of fcntl(2), and this one has none of that kind.) */
+/* Closes a copy of the file's descriptor, because the host may return an error then, and releases the owner's
+ * locks. (Closing a descriptor releases the process's fcntl(2) locks of the file, but this process has none of
+ * that kind.) */
 static int flush(const struct call *call)
 {
 	const int copy = dup(call->file->counted.fd);
@@ -272,7 +269,7 @@ static int sync_file(const struct call *call)
 
 typedef int maker(const struct call *call);
 
-/* What makes a call of an open file; NULL: it is none. */
+/* Returns the function that makes a call of an open file, or NULL. */
 static maker *maker_of(uint32_t call)
 {
 	static maker *const makers[] = {

@@ -1,8 +1,8 @@
-/* Entries and attributes of a passthrough: what a client is told of a file, and for how long that holds. Workers run
- * it, any number at once, without a lock of its own.
+/* Entries and attributes of a passthrough, and how long the client may cache them. Any number of workers may run
+ * at once, without a lock.
  *
- * An entry that is told is a lookup of its node, which the client gives back by FORGET. Whoever makes an entry, and
- * can't tell it, gives the lookup back itself (answer_call). */
+ * An entry in a reply increments the lookup count of its node, which the client decrements by FORGET. A function
+ * that makes an entry but cannot return it must undo that (answer_call). */
 #define _GNU_SOURCE
 #include <errno.h>
 #include <fcntl.h>
@@ -14,7 +14,7 @@
 #include "passthrough_mounts.h"
 #include "passthrough_watch.h"
 
-/* Whether the client is told where something is mounted, and has a device of its own for it then. */
+/* Returns whether submounts are announced to the client, which then shows each as a device of its own. */
 static bool announces(const struct call *call)
 {
 	return call->all->options.announce_submounts && atomic_load(&call->all->agreed) & FUSE_SUBMOUNTS;
@@ -49,8 +49,8 @@ static void put_attr(const struct call *call, const struct statx *seen, bool is_
 	attr->flags = 0;
 }
 
-/* Whether a client is told if the attributes change that it gets by this answer: the file is watched, and one that it
- * has already, of which it takes no answer that was under way then. */
+/* Returns whether the client is notified if the attributes of this answer change: the file is watched, and the
+ * client knows it already. Then it drops an answer that was in flight. */
 static bool is_told_of(const struct call *call)
 {
 	return (call->asked->opcode == NIZWARF_GETATTR || call->asked->opcode == NIZWARF_STATX) &&
@@ -60,15 +60,14 @@ static bool is_told_of(const struct call *call)
 uint64_t name_time(const struct call *call, const struct node *directory, uint64_t time)
 {
 	const struct watch *watch = call->all->nodes.watch;
-	/* (without a watch the client's times are as the user said; with one, and without it here,
-	 * nobody tells of a change) */
+	/* (without --watch the configured times apply; with it, a directory that is not watched has a short time) */
 	const uint64_t most = !watch ? UINT64_MAX : directory->watched ? watch_longest(watch) : SHORT_TIME;
 
 	return time < most ? time : most;
 }
 
-/* A client that writes later, or by itself, does not ask for the mode of a file that it changed, and that lost its
- * set-user-ID bit so: with one attributes do not hold. */
+/* A client with a writeback cache or passthrough does not request the mode of a file that it changed, and which
+ * lost its set-user-ID bit by that. So the attributes of a file with such a bit are not cached. */
 void tell_attr(const struct call *call, const struct statx *seen, bool is_apart, nizwarf_entry *entry)
 {
 	const struct passthrough *all = call->all;
@@ -98,9 +97,9 @@ void tell_entry(const struct call *call, uint64_t number, const struct statx *se
 	/* (nobody says that it is mounted no longer) */
 	if (across && all->nodes.watch && time > SHORT_TIME)
 		time = SHORT_TIME;
-	/* (what is not said here says tell_attr(): each field) */
+	/* (tell_attr() sets the other fields) */
 	entry->node = number;
-	/* (a node's number is never used again, so that of the generation needs not tell two apart) */
+	/* (a node's number is never reused, so the generation is always 0) */
 	entry->generation = 0;
 	entry->entry_seconds = time / 1000;
 	entry->entry_nanoseconds = (uint32_t)(time % 1000) * 1000000;
@@ -178,8 +177,8 @@ int look_up(const struct call *call, const struct found *found, nizwarf_entry *e
 	struct statx seen;
 	uint64_t number;
 
-	/* What is known is not opened again, and of what is missing this costs less. But a name mostly comes
-	 * to what the last one came to: so a new file is opened at once. */
+	/* A known file is not opened again, and for a missing one this is faster too. But the result is usually of
+	 * the same kind as that of the last name, so a new file is opened at once. */
 	if (!*expects_new) {
 		if (statx(found->directory, found->name, AT_SYMLINK_NOFOLLOW | AT_NO_AUTOMOUNT, WANTED,
 			  &seen))

@@ -131,7 +131,7 @@ struct holder *holder_take(const struct call *call, bool makes)
 	return h;
 }
 
-/* ---- what is granted */
+/* ---- granted locks */
 
 /* Whether an unlock makes two ranges of one. */
 static bool divides(const struct holder *h, const struct range *cut)
@@ -142,7 +142,7 @@ static bool divides(const struct holder *h, const struct range *cut)
 	return false;
 }
 
-/* Frees memory of ranges that have been joined or unlocked; what the users reserved stays. */
+/* Frees memory of ranges that were joined or unlocked, except memory that users have reserved. */
 static void trim(struct holder *h)
 {
 	const size_t wanted = 2 * (h->count + 2 * (size_t)h->users);
@@ -154,8 +154,8 @@ static void trim(struct holder *h)
 	}
 }
 
-/* Makes memory for two more ranges for each user: a lock or an unlock divides one range at most, and adds one. So what
- * the host grants can always be noted. */
+/* Allocates memory for two more ranges for each user: a lock or an unlock splits at most one range, and adds one.
+ * So a lock that the host grants can always be noted. */
 bool holder_reserve(struct locks *all, struct holder *h, const nizwarf_lock *lock)
 {
 	const struct range range = range_of(lock);
@@ -223,7 +223,7 @@ static void note_range(struct holder *h, struct range new)
 
 /* ---- the locks of the host */
 
-/* (FUSE has the last byte, or INT64_MAX where there is none) */
+/* (FUSE sends the last byte, or INT64_MAX for no end) */
 struct range range_of(const nizwarf_lock *lock)
 {
 	return (struct range){ lock->start, lock->end < INT64_MAX ? lock->end : INT64_MAX, lock->type };

@@ -1,9 +1,8 @@
-/* Ids of a passthrough: passthrough_ids.h. The rules are read once, from --translate-uid and
- * --translate-gid, before a worker begins, and never change: so any number of threads translate at once,
- * without a lock.
+/* Ids of a passthrough: passthrough_ids.h. The rules are parsed once, from --translate-uid and --translate-gid,
+ * before a worker starts, and never change, so any number of threads may translate at once without a lock.
  *
- * The two ways are lists of their own. An id that a rule of one of them moves comes back by itself
- * with `map` alone: with `guest` the host's id is told as it is. */
+ * There is a list for each direction. Only `map` also translates an id back: with `guest`, the host's id is shown
+ * unchanged. */
 #define _GNU_SOURCE
 #include <ctype.h>
 #include <errno.h>
@@ -18,8 +17,8 @@ static bool overlap(const struct id_rule *a, const struct id_rule *b)
 	return a->from < (uint64_t)b->from + b->count && b->from < (uint64_t)a->from + a->count;
 }
 
-/* Adds a rule: NULL, or what is wrong with it. Each id has one rule at most, so their order means
- * nothing. One of no id is let pass. */
+/* Adds a rule. Returns NULL, or a message if it is invalid. An id has at most one rule, so their order does not
+ * matter. A rule for no id has no effect. */
 static const char *add(struct id_rules *all, const struct id_rule *rule)
 {
 	struct id_rule *more;

@@ -1,10 +1,8 @@
-/* Directories and extended attributes of a passthrough: READDIR and READDIRPLUS, which passthrough_data.c
- * hands here, and the calls of attributes, which passthrough_call.c does. Workers run it, any number at
- * once.
+/* Directories and extended attributes of a passthrough: READDIR and READDIRPLUS, called by passthrough_data.c, and
+ * the calls of attributes, called by passthrough_call.c. Any number of workers may run at once.
  *
- * A directory has one place where the host reads on, and one buffer, so one READDIR of an open
- * directory goes on at a time, under its lock. What a worker answers by, its items, names and text, is
- * its own up to its next call. */
+ * An open directory has one position and one buffer, so only one READDIR of it runs at a time, under its lock. The
+ * items, names and text of a reply belong to the worker until its next call. */
 #define _GNU_SOURCE
 #include <dirent.h>
 #include <errno.h>
@@ -14,8 +12,8 @@
 #include <unistd.h>
 #include "passthrough_call.h"
 
-/* How much is read of a directory at once, and how many may keep what wasn't told of it: a client may
- * have any number of them open. */
+/* How many bytes of a directory are read at once, and how many open directories may keep a buffer of unsent
+ * entries, because a client may open any number of them. */
 enum { ENTRIES = 32768, MOST_BUFFERS = 256 };
 
 /* ---- directories */
@@ -32,8 +30,7 @@ static int move_to(struct open_file *file, uint64_t offset)
 			return ENOMEM;
 		atomic_fetch_add(&file->of->buffers, 1);
 	}
-	/* (at 0 a directory is read anew, but for the first time: rewinddir(3) shows what was made
-	 * since) */
+	/* (at offset 0 the directory is read again, except the first time, so that rewinddir(3) shows new entries) */
 	if (offset == file->offset && (offset || is_first))
 		return 0;
 	if (offset > INT64_MAX)
@@ -48,8 +45,8 @@ static int move_to(struct open_file *file, uint64_t offset)
 	return 0;
 }
 
-/* Drops what was read and not told, if many keep such. The host then reads on from the item that was
- * told last; where it can't be moved there the buffer stays. */
+/* Drops a buffer of unsent entries, if there are many. The host then continues after the entry that was sent last;
+ * if it cannot seek there, the buffer is kept. */
 static void drop_buffer(struct open_file *file)
 {
 	atomic_uint *buffers = &file->of->buffers;
@@ -63,8 +60,8 @@ static void drop_buffer(struct open_file *file)
 	atomic_fetch_sub(buffers, 1);
 }
 
-/* The next item of a directory, or NULL: with errno 0 at its end. It lies in the buffer up to the next
- * reading of it, and counts as told once its caller moves `at` on. */
+/* Returns the next entry of a directory, or NULL; errno is 0 at its end. The entry is in the buffer until the next
+ * read. It counts as sent once the caller has moved `at` past it. */
 static const struct dirent64 *next_item(struct open_file *file)
 {
 	if (file->at == file->end) {
@@ -80,15 +77,14 @@ static const struct dirent64 *next_item(struct open_file *file)
 	return (const void *)(file->buffer + file->at);
 }
 
-/* What the items of a listing take: of its reply, and of the worker's names. */
+/* The space that the items of a listing use: of the reply, and of the worker's names. */
 struct space {
 	size_t room, names, count;
 	bool lacks_memory;
 };
 
-/* A place for one item more, without an entry; NULL: there is no memory. What is new is zeroed, and so
- * is each entry that a listing used, before the next one: so an item that gets none says that nothing
- * was looked up. */
+/* Adds an item without an entry. Returns NULL if out of memory. New memory is zeroed, and each entry that a
+ * listing used is zeroed before the next one, so that an item without an entry shows that nothing was looked up. */
 static nizwarf_dirent *add_item(struct worker *w, size_t count)
 {
 	const size_t size = w->items_size;
@@ -109,9 +105,9 @@ static void clear_entries(struct worker *w)
 	w->entries = 0;
 }
 
-/* The entry of an item. Of one that can't be looked up, or went, there is the name alone. Each that is
- * told counts as a lookup; answer_call() gives back those that don't fit. Somebody may put another
- * file in place of the name meanwhile: then the entry is that file's, as by a LOOKUP. */
+/* Fills in the entry of an item. If the file cannot be looked up, the item has only the name. Each entry counts as
+ * a lookup; answer_call() undoes those that do not fit. If the name leads to another file meanwhile, the entry is
+ * that file's, as with LOOKUP. */
 static void find_entry(const struct call *call, const struct dirent64 *found, nizwarf_entry *entry)
 {
 	const struct found at = found_in(&call->node, found->d_name);
@@ -122,8 +118,8 @@ static void find_entry(const struct call *call, const struct dirent64 *found, ni
 		memset(entry, 0, sizeof(*entry));
 }
 
-/* Whether entries are told. A kernel asks for them at the beginning of each listing, and goes on to ask if
- * they are used. Where it didn't, a directory is listed by names alone until one of them is looked up. */
+/* Returns whether a listing has entries. A kernel requests them at the beginning of each listing, and continues to
+ * do so if they are used. If it does not, a directory is listed by names only until one of them is looked up. */
 static bool tells_entries(const struct call *call)
 {
 	const bool plus = call->asked->has & NIZWARF_PLUS;
@@ -147,8 +143,8 @@ static bool put_item(const struct call *call, const struct dirent64 *found, bool
 	space->lacks_memory = !item;
 	if (!item)
 		return false;
-	/* (of what is a mount the host says here, too, which inode is below it; on what has several devices without
-	 * a mount, as overlayfs may, a file's attributes may have another number) */
+	/* (for a mount point this is the inode below it, as on the host; and on a file system with several
+	 * devices, such as overlayfs, statx(2) may return another number) */
 	item->ino = inode_of(call, call->node.node->on->device, found->d_ino, false);
 	item->offset = (uint64_t)found->d_off;
 	item->type = found->d_type;
@@ -156,7 +152,7 @@ static bool put_item(const struct call *call, const struct dirent64 *found, bool
 	item->name_size = len;
 	if (entries && is_plain(found->d_name))
 		find_entry(call, found, &item->entry);
-	/* What is above the folder is not told: its `..` is itself, as that of /. */
+	/* The directory above the shared one is not shown: `..` is the shared directory itself, as in /. */
 	if (call->node.node->counted.number == ROOT_NODE && !strcmp(found->d_name, ".."))
 		item->ino = inode_of(call, call->node.node->on->device, call->node.node->inode, false);
 	space->names += len;
@@ -165,9 +161,9 @@ static bool put_item(const struct call *call, const struct dirent64 *found, bool
 	return true;
 }
 
-/* Puts the items that fit into the worker's, under the lock of the file. 0, and no item: the directory
- * ends there (or not even one fits, for which Linux always leaves room). An error after some items is
- * not told: the next READDIR meets it, if it lasts. */
+/* Adds the items that fit to the worker's, under the lock of the file. Returning 0 without an item means the end
+ * of the directory. (Linux always leaves space for at least one.) An error after some items is ignored: if it
+ * persists, the next READDIR returns it. */
 static int list(const struct call *call)
 {
 	struct worker *w = call->worker;
@@ -181,7 +177,7 @@ static int list(const struct call *call)
 	/* Names are copied, since the buffer changes; of each the record is longer than the name. */
 	if (!error && !grow(&w->names, &w->names_size, space.room))
 		error = ENOMEM;
-	/* The end that a listing met is told once to who reads on. It says nothing of what is used. */
+	/* The end of the listing is returned once to a client that continues to read. */
 	if (!error && file->is_at_end) {
 		file->is_at_end = false;
 		return 0;
@@ -220,8 +216,8 @@ int read_directory(const struct call *call)
 
 /* ---- extended attributes */
 
-/* Access control lists are no attributes, unless they are agreed on: the client would keep them without looking
- * at what they mean. */
+/* Without --posix-acl, access control lists are not shown as attributes, because the client would keep them
+ * without enforcing them. */
 static bool is_list(const char *name)
 {
 	return !strncmp(name, "system.posix_acl_", 17);
@@ -309,8 +305,8 @@ int remove_xattr(const struct call *call)
 	return error;
 }
 
-/* Answers a text of the worker's, or how long it is, where the client has no room and asks for that.
- * ERANGE: its room is too small. `got` is below 0 where the host failed, with errno. */
+/* Fills in a text of the worker, or its length if the client passed no buffer. ERANGE: the buffer is too small.
+ * `got` is negative if the system call failed, with errno. */
 static int tell_text(const struct call *call, ssize_t got)
 {
 	nizwarf_answer *answer = call->answer;
@@ -332,17 +328,17 @@ int get_xattr(const struct call *call)
 	struct xattr_name host;
 	int error = find_name_of(call, &name, &host);
 
-	/* (a rule that refuses a name says that there is none) */
+	/* (if a rule refuses the name, there is no such attribute) */
 	if (error)
 		return error == EPERM ? ENODATA : error;
 	error = tell_text(call,
 			  getxattr(name_fd(call->node.fd).bytes, name, call->worker->text, LONGEST_VALUE));
-	/* (where a file system has no lists the mode says who may) */
+	/* (on a file system without access control lists the mode decides) */
 	return error == EOPNOTSUPP && is_list(asked) && call->all->options.posix_acl ? ENODATA : error;
 }
 
-/* LISTXATTR. The host's list is names with a 0 after each. They are translated where they lie, from
- * the first to the last: none gets longer, so what is written never reaches what is still to be read. */
+/* LISTXATTR. The host's list consists of names that end with a 0. They are translated in place from the first to
+ * the last: because no name becomes longer, a write never reaches a name that has not been read. */
 int list_xattr(const struct call *call)
 {
 	const struct xattr_map *map = call->all->options.xattr_map;
@@ -355,7 +351,7 @@ int list_xattr(const struct call *call)
 	got = listxattr(name_fd(call->node.fd).bytes, text, LONGEST_VALUE);
 	if (got < 0)
 		return errno;
-	/* (the text has room for one byte more; a name that were cut would end there) */
+	/* (the buffer has one more byte, so that a truncated name would end there) */
 	text[got] = 0;
 	for (from = 0; from < got;) {
 		const char *name = text + from;

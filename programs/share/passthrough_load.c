@@ -1,15 +1,16 @@
-/* Loads the state of a passthrough (passthrough_state.h), by which this server goes on with a machine.
+/* Loads the state of a passthrough (passthrough_state.h), with which this server continues to serve a virtual
+ * machine.
  *
- * Anyone may have made a state. So nothing outside of the folder is opened: a node is opened by its name in a directory that
- * was opened before it, from the folder on, and no symbolic link is followed. Handles are opened only if --migration-mode
- * says so, and of these only files that the folder has. A handle of a file that has no name any more shows nothing of where
- * the file was. So such a file is opened only if --migration-unlinked-files says so, and not once MOST_STRAYS handles were
- * wrong: who does not know the handle of a file must not find it by trying. Numbers, flags and sizes are compared with their
- * ranges as those of a client are.
+ * A state may be forged, so nothing outside of the shared directory is opened. A node is opened by its name in a
+ * directory that was opened before, from the shared directory on, and no symbolic link is followed. Handles are
+ * opened only if --migration-mode permits it, and only those of files in the directory. The handle of a file
+ * without a name does not show where the file was. So such a file is opened only with --migration-unlinked-files,
+ * and not after MOST_STRAYS wrong handles, because somebody who does not know a handle must not find it by trying.
+ * Numbers, flags and sizes are checked as those of a client.
  *
- * The transport's own thread does it, while no request is in flight: so no worker changes nodes or files. Others may change
- * the folder at any time. What is found by a name was that file when it was looked at, and is held by its descriptor from
- * then on. */
+ * The transport's own thread does it, while no request is in flight, so no worker changes nodes or files. Others
+ * may change the directory at any time. A file that is found by a name was that file when it was checked, and is
+ * held by its descriptor from then on. */
 #define _GNU_SOURCE
 #include <errno.h>
 #include <fcntl.h>
@@ -134,8 +135,8 @@ static int open_name(struct loading *l, uint32_t parent, const char *name, int f
 	return fd;
 }
 
-/* A DIRECTORY. It keeps a descriptor until the end of the loading. One that is not found is no fault by itself: what is in
- * it is lost. */
+/* A DIRECTORY. Its descriptor is open until the end of the loading. If it is not found, only the files in it are
+ * lost. */
 static int load_directory(struct loading *l)
 {
 	struct state_directory result;
@@ -164,7 +165,7 @@ static int load_mount(struct loading *l)
 	if (l->header.mode != MIGRATES_BY_HANDLES || l->mount_count == MOST_MOUNTS ||
 	    !state_is_path((const char *)l->body, l->len))
 		return state_refuse("invalid file system record");
-	/* (It is open for as long as no request is. If it does not open, what comes by its handles is lost.) */
+	/* (It is open only while no request is in flight. If it cannot be opened, files of its handles are lost.) */
 	l->mounts[l->mount_count++] = open_below(&l->paths, (const char *)l->body, O_RDONLY | O_DIRECTORY);
 	return 0;
 }
@@ -219,12 +220,12 @@ static int open_handle(struct loading *l, const struct state_node *result)
 	union handle_room room;
 	int fd, error = ESTALE;
 
-	/* (the room has MAX_HANDLE_SZ bytes, and the size was compared with it) */
+	/* (`room` has MAX_HANDLE_SZ bytes, against which the size was checked) */
 	room.handle.handle_type = result->handle_type;
 	room.handle.handle_bytes = result->handle_size;
 	memcpy(room.handle.f_handle, result->handle, result->handle_size);
 	fd = mount < 0 ? -1 : open_by_handle_at(mount, &room.handle, O_PATH | O_NOFOLLOW | O_CLOEXEC);
-	/* (A handle that is cut, or made up, may open something. So the host makes the handle of what was opened.) */
+	/* (A truncated or forged handle may open some file. So the handle of the open file is compared with it.) */
 	if (fd >= 0 && has_handle(fd, result) && is_in_folder(l, fd, result))
 		return fd;
 	if (fd >= 0) {
@@ -383,7 +384,7 @@ static int load_file(struct loading *l)
 
 /* ---- all of it */
 
-/* Compares the end with what came. */
+/* Compares the end record with the records that were loaded. */
 static int load_end(struct loading *l)
 {
 	struct state_end result;
@@ -432,8 +433,8 @@ static int load_record(struct loading *l)
 	}
 }
 
-/* Compares what the client agreed on by INIT with what this server is started with. If it agreed on more, it would go on to
- * use that; if it lacks something, INIT would have refused it. One that agreed on nothing has had no INIT yet. */
+/* Compares the features that the client negotiated by INIT with those of this server. A client with more would use
+ * them; one that lacks a required feature would have been refused by INIT. One without any has sent no INIT yet. */
 static int check_agreed(struct loading *l)
 {
 	const struct passthrough *all = l->all;
@@ -499,7 +500,7 @@ static void end_loading(struct loading *l)
 	free(l);
 }
 
-/* What the passthrough has goes first, and if the loading fails all that came goes too. */
+/* The current state is removed first. If the loading fails, everything that was loaded is removed too. */
 int passthrough_load(void *user, transport_state *from)
 {
 	struct passthrough *all = user;

@@ -1,34 +1,35 @@
 /* Locks of a passthrough: passthrough_locks.h.
  *
- * A lock of flock(2) belongs to an open file, as in Linux. So it is a lock of the descriptor that the client's open
- * file has here, which both SETLK and RELEASE name by the handle, and it is given up when that descriptor is closed. The
- * lock owner is not used for it: Linux makes the owner of the address of its open file, which the next open file may
- * have before the RELEASE of the earlier one is served. (Then the owner shows that the earlier one is closed, so its lock
- * is given up for the later one: unlock_closed.)
+ * A flock(2) lock belongs to an open file, as in Linux. So it is a lock of the descriptor of the client's open
+ * file here, which both SETLK and RELEASE identify by the handle, and it is released when that descriptor is
+ * closed. The lock owner is not used for it: Linux derives the owner from the address of its open file, which the
+ * next open file may get before the RELEASE of the earlier one is served. (Then the owner shows that the earlier
+ * one is closed, so its lock is released for the later one: unlock_closed.)
  *
- * A lock of fcntl(2) belongs to a lock owner. The host keeps it by F_OFD_SETLK for a descriptor of its own, one for each
- * owner and file: a holder. So both are locks against other clients and against programs of the host.
+ * A fcntl(2) lock belongs to a lock owner. The host keeps it by F_OFD_SETLK for a separate descriptor for each
+ * owner and file: a holder. So both are locks against other clients and against programs of the host. The locks
+ * that the host has granted are noted in the holder or the open file.
  *
- * What the host has granted is noted, with the holder or with the open file. A call that locks or unlocks without
- * waiting does so alone: it has the `turn` of its holder (or the `lock` of its open file) from before it calls the host
- * until the result is noted, so the note and the host agree whatever the order of calls. Waiting is done without it, and
- * success there is a hint only: the lock is then taken again in turn, which does nothing if it is there still. So a
- * lock that another thread gave up or closed meanwhile is taken again or waited for again, and is never reported as
- * granted without being held.
+ * A call that locks or unlocks without waiting runs alone: it has the `turn` of its holder (or the `lock` of its
+ * open file) from before the system call until the result is noted, so the note and the host agree whatever the
+ * order of calls. Waiting is done without it, and success there is only a hint: the lock is then taken again in
+ * turn, which does nothing if it still exists. So a lock that another thread released or closed meanwhile is taken
+ * again or waited for again, and is never reported as granted without being held.
  *
- * A lock that is not free is waited for by a thread of its own, and by no worker. A signal ends the waiting.
+ * A separate thread, and not a worker, waits for a lock that is not free. A signal ends the wait.
  *
- * Workers make the calls, among them INIT and DESTROY, which end all locks. The transport's own thread ends waiting,
- * asks whether locks are held, and gives all up once a client has gone.
+ * Workers make the calls, among them INIT and DESTROY, which release all locks. The transport's own thread ends
+ * waits, checks whether locks are held, and releases all locks once a client has disconnected.
  *
- * `lock` guards the table of holders, their counts and ranges, and the list of waiters. The host is not called while it
- * is held, because its file system may not respond: who calls it counts as a user of the holder or the open file, so the
- * descriptor stays open. It is the last lock to be taken. `replying` guards the slot, and is taken alone.
+ * `lock` protects the table of holders, their counts and ranges, and the list of waiters. No system call is made
+ * while it is held, because the file system may not respond: the caller counts as a user of the holder or the open
+ * file, so the descriptor stays open. It must be locked last. `replying` protects the scratch memory, and is
+ * locked alone.
  *
- * A hostile client may name any owner and any node. It gets holders only for files that it has open, each with a
- * descriptor that counts among those that it may have, and can give up no locks but its own. A request whose client has
- * gone adds no holder, removes none and ends no waiting: that is checked under the lock, and the table is emptied after
- * the client is known to be gone. */
+ * A malicious client may send any owner and any node. It gets holders only for files that it has open, each with a
+ * descriptor that counts towards its limit, and can release only its own locks. A request whose client has
+ * disconnected adds no holder, removes none and ends no wait: that is checked under the lock, and the table is
+ * emptied after the client is known to have disconnected. */
 #define _GNU_SOURCE
 #include <errno.h>
 #include <fcntl.h>
@@ -83,8 +84,8 @@ static uint32_t pid_of(struct locks *all, const nizwarf_call *asked, const struc
 	return pid;
 }
 
-/* GETLK: a lock that would be in the way, or F_UNLCK. An owner that has none here asks by the client's
- * own description of the file, which never has any. */
+/* GETLK: returns a conflicting lock, or F_UNLCK. For an owner without a holder it uses the client's own open file,
+ * which never has locks. */
 int get_lock(const struct call *call)
 {
 	const nizwarf_lock asked = nizwarf_lock_of(call->asked);
@@ -201,8 +202,8 @@ static void unlink_waiter(struct waiter *w)
 		w->next->at = w->at;
 }
 
-/* Replies to the request, and waits no longer. (If there is no memory for the reply, it tries for some
- * ten seconds: who has the lock should know it.) */
+/* Replies to the request and ends the wait. (If out of memory, it retries for about ten seconds, because the owner
+ * of a lock should know that it has it.) */
 static void finish(struct waiter *w, int error)
 {
 	struct locks *all = w->of;
@@ -214,7 +215,7 @@ static void finish(struct waiter *w, int error)
 	int32_t code;
 
 	answer.error = error;
-	/* (the reply is a header, and has as much room as that) */
+	/* (the reply is only a header, and so is its buffer) */
 	w->asked.reply_size = sizeof(reply);
 	pthread_mutex_lock(&all->replying);
 	code = nizwarf_encode(&all->slot, &session, &w->asked, &answer, &room, 1, &result);
@@ -296,9 +297,10 @@ static int may_wait(const struct call *call, struct waiter *w)
 	return w->later ? 0 : ENOLCK;
 }
 
-/* Starts a thread that waits by a holder, whose user it is from then on in place of the caller, or for an open file:
- * LOCK_WAITS, or an error, by which the holder stays the caller's. The waiter comes to the list under the lock under which
- * `early` is looked at: so an INTERRUPT of it either came before, and is found there, or finds the waiter. */
+/* Starts a thread that waits for a lock of a holder, of which it takes over the caller's reference, or of an open
+ * file. Returns LOCK_WAITS, or an error; then the caller keeps the reference. The waiter is added to the list
+ * under the lock under which `early` is checked, so an INTERRUPT either came before, and is found there, or finds
+ * the waiter. */
 static int start_waiter(const struct call *call, struct holder *h)
 {
 	struct locks *all = call->all->locks;
@@ -333,9 +335,9 @@ static int start_waiter(const struct call *call, struct holder *h)
 	return LOCK_WAITS;
 }
 
-/* Kicks those that are to stop: that of this number, which is kept if there is none; or all, with
- * ENOLCK, since by EINTR Linux takes it that a signal has come. (One that did not wait yet misses it,
- * and is kicked again.) For a client that has gone nobody stops: who waits is the next one's. */
+/* Ends waits: that of this request, which is remembered if it does not wait yet; or all, with ENOLCK, because on
+ * EINTR Linux assumes that a signal has arrived. (A thread that has not started to wait misses the signal, and
+ * gets it again.) For a client that has disconnected nothing is done: the waiters belong to the next one. */
 static void kick_each(struct locks *all, unsigned client, const uint64_t *unique, bool keeps, bool *is_left)
 {
 	bool is_late;
@@ -410,8 +412,8 @@ static int set_range(const struct call *call, const nizwarf_lock *lock)
 	return error;
 }
 
-/* SETLK and SETLKW. ENOLCK: there is nothing to hold the lock by, or as many wait as may. EAGAIN: it
- * isn't free, and SETLK doesn't wait. EDEADLK: who has it waits for this owner. */
+/* SETLK and SETLKW. ENOLCK: there is no descriptor for the lock, or the limit of waiters is reached. EAGAIN: it is
+ * not free, and SETLK does not wait. EDEADLK: its owner waits for this owner. */
 int set_lock(const struct call *call)
 {
 	const nizwarf_lock lock = nizwarf_lock_of(call->asked);
@@ -455,10 +457,10 @@ static void drop_each(const struct call *call, bool by_handle)
 	} while (h && by_handle);
 }
 
-/* By POSIX whoever closes a descriptor of a file loses all its locks of fcntl(2) in it: that is FLUSH. A lock of
- * F_OFD_SETLK lasts up to the last close of the open file, as one of flock(2), which goes with the descriptor: Linux
- * sends the same requests for it, with an owner of its own, but no FLUSH. So RELEASE gives up what was locked by
- * that open file, of which an owner of the other kind has nothing left by then. */
+/* In POSIX, closing any descriptor of a file releases all fcntl(2) locks that the process has in it: that is
+ * FLUSH. A lock of F_OFD_SETLK lasts until the last close of the open file, as a flock(2) lock, which belongs to
+ * the descriptor. Linux sends the same requests for it, with an owner of its own, but no FLUSH. So RELEASE
+ * releases the locks that were taken by that open file; an owner of the other kind has none left by then. */
 void locks_close(const struct call *call)
 {
 	const nizwarf_call *asked = call->asked;
@@ -477,8 +479,8 @@ void locks_recall(struct locks *all)
 	kick_each(all, client_now(all->nodes), NULL, false, &is_left);
 }
 
-/* Ends all waiting, up to a second: one may wait for the host, which does not answer. Whether it ended, or is none of this
- * client's. */
+/* Ends all waits of this client, within a second, because a thread may wait for a host that does not respond.
+ * Returns whether they ended, or belong to another client. */
 static bool end_waiting(struct locks *all, unsigned client)
 {
 	bool is_left, is_idle = false;
@@ -494,8 +496,8 @@ static bool end_waiting(struct locks *all, unsigned client)
 	return is_idle;
 }
 
-/* Takes all out of the table: the first one of a list, whose user its owner is; none, if the client has gone. What was
- * interrupted before it came is forgotten. */
+/* Removes all holders from the table and returns them as a list, of whose holders the caller is a user; or NULL if
+ * the client has disconnected. Requests that were interrupted before they arrived are forgotten. */
 static struct holder *take_all(struct locks *all, unsigned client)
 {
 	struct holder *gone = NULL, *h;

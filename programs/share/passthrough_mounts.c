@@ -18,7 +18,7 @@ uint64_t device_of(const struct statx *seen)
 	return makedev(seen->stx_dev_major, seen->stx_dev_minor);
 }
 
-/* (Linux has it from 5.8 on; before, files are told apart by their devices alone) */
+/* (Linux has it since 5.8; before, files are distinguished only by their devices) */
 uint64_t mount_of(const struct statx *seen)
 {
 	return seen->stx_mask & STATX_MNT_ID ? seen->stx_mnt_id : 0;
@@ -35,7 +35,7 @@ struct host_mount *mount_take(struct nodes *all, const struct found *found, cons
 {
 	struct host_mount *mount = found->node && !is_across(found->node, seen) ? found->node->on : NULL;
 
-	/* (the node, which is in hand, keeps it: so it needs no lock) */
+	/* (the referenced node keeps it, so no lock is needed) */
 	if (mount) {
 		atomic_fetch_add(&mount->users, 1);
 		return mount;
@@ -94,9 +94,9 @@ bool handle_by(int fd, union handle_room *room)
 	return !name_to_handle_at(fd, "", &room->handle, &id, AT_EMPTY_PATH);
 }
 
-/* It takes CAP_DAC_READ_SEARCH, and opens any file of the file system, also one outside of the folder.
- * So only handles are opened that this server was told by the host, or that passthrough_load.c
- * compares with the folder. ESTALE: there is no such file any more. */
+/* It requires CAP_DAC_READ_SEARCH, and can open any file of the file system, also outside of the shared directory.
+ * So only handles are opened that the host has returned, or that passthrough_load.c compares with the directory.
+ * ESTALE: the file does not exist any more. */
 int open_by_handle(const struct host_mount *mount, struct file_handle *handle)
 {
 	return open_by_handle_at(mount->fd, handle, O_PATH | O_NOFOLLOW | O_CLOEXEC);
@@ -159,9 +159,9 @@ static bool mount_open(struct host_mount *mount, const struct found *found, int 
 	return is_open;
 }
 
-/* Opens the handle once to see whether it does: a file system may tell one that it can't open, and the
- * file's own descriptor is closed after that. False: the node keeps that, or isn't made if handles
- * alone are wanted. */
+/* Opens the handle once to check that this is possible, because a file system may return handles that it cannot
+ * open, and the file's own descriptor is closed afterwards. On false, the node keeps the descriptor, or is not
+ * created with --inode-file-handles=mandatory. */
 bool mount_hold(struct host_mount *mount, const struct found *found, int fd, const struct statx *seen,
 		struct file_handle *handle)
 {

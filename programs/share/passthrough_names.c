@@ -1,10 +1,9 @@
-/* Names of a passthrough: LOOKUP, SYMLINK, MKNOD, MKDIR, LINK and RENAME, which passthrough_call.c hands
- * here once the nodes are in hand and the names are plain. Workers run it, any number at once, without a
- * lock: the host orders what happens to one name.
+/* Names of a passthrough: LOOKUP, SYMLINK, MKNOD, MKDIR, LINK and RENAME, called by passthrough_call.c with
+ * references to the nodes and with valid names. Any number of workers may run at once without a lock, because the
+ * host orders changes of one name.
  *
- * Others may rename, replace or remove a name between two calls of the host. What is told is what was
- * there when it was opened, in the same directory; and no symbolic link is followed, so nothing is
- * told of what is elsewhere. */
+ * Others may rename, replace or remove a name between two system calls. The result describes the file as of when
+ * it was opened in that directory. No symbolic link is followed, so no file outside is shown. */
 #define _GNU_SOURCE
 #include <errno.h>
 #include <fcntl.h>
@@ -15,15 +14,14 @@
 #include <unistd.h>
 #include "passthrough_call.h"
 
-/* Takes back a name that a call made and can't answer, as there is no memory or the host has no
- * descriptor. It is left if it leads to another file by now. Of what was made the inode may not be known:
- * such a file has no data yet.
+/* Removes a name that a call created but cannot return, because it is out of memory or of descriptors. A name that
+ * leads to another file by now is left. If the inode of the new file is unknown, it has no data yet. Between the
+ * check and the removal another file may still take the name, and be removed, because Linux cannot remove a name
+ * of a specific file. A directory is removed only if it is empty.
  *
- * Between the look and the removing another file may still take the name, and go in its place: Linux
- * can't remove a name of one file alone. A directory goes only if it is empty.
- *
- * Returns the error of the call. It is EIO if the host does not remove the name, as in a directory that is open for
- * appending alone (chattr +a): by another error the call would be repeated, and find what it made itself. */
+ * Returns the error of the call. It is EIO if the host does not remove the name, as in a directory with the attribute
+ * append-only (chattr +a), because after another error the request may be repeated, and then finds the name that it
+ * created itself. */
 static int unmake(int directory, const char *name, const struct statx *made, int error)
 {
 	struct statx seen;
@@ -31,14 +29,14 @@ static int unmake(int directory, const char *name, const struct statx *made, int
 	if (statx(directory, name, AT_SYMLINK_NOFOLLOW | AT_NO_AUTOMOUNT, WANTED, &seen) ||
 	    (seen.stx_mode ^ made->stx_mode) & S_IFMT)
 		return error;
-	/* (without an inode it is as what was made: a directory, or of the size of that) */
+	/* (if its inode is unknown, the file is compared by its type and size) */
 	if (made->stx_ino ? seen.stx_ino == made->stx_ino && seen.stx_mnt_id == made->stx_mnt_id :
 			    S_ISDIR(seen.stx_mode) || seen.stx_size == made->stx_size)
 		return unlinkat(directory, name, S_ISDIR(seen.stx_mode) ? AT_REMOVEDIR : 0) ? EIO : error;
 	return error;
 }
 
-/* (if it can't be looked at the name stays, and the client sees it later) */
+/* (without its attributes the name remains, and the client sees it later) */
 int unmake_of(int directory, const char *name, int fd, int error)
 {
 	struct statx made;
@@ -46,8 +44,8 @@ int unmake_of(int directory, const char *name, int fd, int error)
 	return look_at(fd, &made) ? EIO : unmake(directory, name, &made, error);
 }
 
-/* What is known of what a call made, without a look: its type, and of a symbolic link the size, which
- * is that of its text. MKNOD without a type makes a regular file. */
+/* Returns the attributes of a new file that are known without statx(2): its type, and for a symbolic link the
+ * size, which is that of its target. MKNOD without a type creates a regular file. */
 static struct statx made_by(const struct call *call)
 {
 	const nizwarf_call *asked = call->asked;
@@ -61,8 +59,8 @@ static struct statx made_by(const struct call *call)
 										       S_IFREG) };
 }
 
-/* By the name, as what was made is not open. A file that took the name meanwhile gets the label, which
- * the client could give it by SETXATTR too. */
+/* By the name, because the new file is not open. A file that took the name meanwhile gets the label, which the
+ * client could also set by SETXATTR. */
 int label_name(const struct call *call, int directory, const char *name)
 {
 	const int fd = openat(directory, name, O_PATH | O_NOFOLLOW | O_CLOEXEC);
@@ -73,8 +71,8 @@ int label_name(const struct call *call, int directory, const char *name)
 	return error;
 }
 
-/* LOOKUP. Of a name that isn't there an entry of node 0 is answered, if that may be remembered, and
- * else ENOENT. Since a name is looked up, listings with entries are of use again. */
+/* LOOKUP. If the name does not exist, returns an entry with node 0 if the client may cache that, and otherwise
+ * ENOENT. After a lookup, listings of the directory have entries again. */
 int find_name(const struct call *call, const char *name)
 {
 	const uint64_t time = name_time(call, call->node.node, call->all->options.negative_time);
@@ -93,8 +91,8 @@ int find_name(const struct call *call, const char *name)
 	return 0;
 }
 
-/* SYMLINK, MKNOD and MKDIR. The node is reserved first: so a call that can't be answered for want of
- * one makes nothing. The host makes no file in place of one that is there (EEXIST). */
+/* SYMLINK, MKNOD and MKDIR. The node is reserved first, so that a call that cannot get one creates nothing. The
+ * host does not replace an existing file (EEXIST). */
 int make_node(const struct call *call)
 {
 	const nizwarf_call *asked = call->asked;
@@ -132,8 +130,7 @@ int make_node(const struct call *call)
 	return error;
 }
 
-/* RENAME. RENAME_WHITEOUT makes a device, which is who asks' own. Linux says EINVAL of flags that it
- * doesn't have. */
+/* RENAME. RENAME_WHITEOUT creates a device that belongs to the caller. Linux returns EINVAL for unknown flags. */
 int rename_node(const struct call *call)
 {
 	const nizwarf_call *asked = call->asked;
@@ -153,8 +150,8 @@ int rename_node(const struct call *call)
 	return error;
 }
 
-/* LINK. The node has a lookup more before the name is made, so that the client's forgetting of it
- * meanwhile takes nothing away that is told. */
+/* LINK. The lookup count is incremented before the link is created, so that a FORGET by the client meanwhile does
+ * not remove the node. */
 int link_node(const struct call *call)
 {
 	struct node *node = call->node.node;

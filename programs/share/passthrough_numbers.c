@@ -1,7 +1,6 @@
-/* Inode numbers of a passthrough: passthrough_numbers.h.
- *
- * A replacement is made as the first number is told that wants it, and is never taken back, as the client may know such
- * numbers for as long as it is there. The lock is held for reading to find one, and for writing to add one. */
+/* Inode numbers of a passthrough: passthrough_numbers.h. A replacement is created with the first number that needs
+ * it, and is never removed, because the client may use such numbers until it disconnects. The lock is held for
+ * reading to find one, and for writing to add one. */
 #define _GNU_SOURCE
 #include <pthread.h>
 #include <stdbool.h>
@@ -12,7 +11,7 @@
  * there are PREFIXES values. HEADS chains lead to those that are known. */
 enum { LOW_BITS = 48, PREFIXES = 65536, HEADS = 1024 };
 
-/* A device with upper bits that its numbers have, and what they are told as. */
+/* A device, upper bits of its inode numbers, and their replacement. */
 struct prefix {
 	uint64_t device;
 	uint16_t high, result;
@@ -37,7 +36,7 @@ static uint64_t mix(uint64_t number)
 	return number ^ number >> 31;
 }
 
-/* The same of two numbers, where (1, 2) and (2, 1) come to different ones. */
+/* Hashes two numbers, whose order matters. */
 static uint64_t mix_both(uint64_t device, uint64_t number)
 {
 	return mix(number ^ mix(device + UINT64_C(0x9e3779b97f4a7c15)));
@@ -64,7 +63,7 @@ void numbers_free(struct numbers *all)
 	free(all);
 }
 
-/* What these upper bits are told as, under the lock; -1: nothing yet. */
+/* Returns the replacement of these upper bits, or -1. The lock must be held. */
 static int find(const struct numbers *all, uint64_t device, uint16_t high)
 {
 	uint32_t at = all->heads[mix_both(device, high) % HEADS];

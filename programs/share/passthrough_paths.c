@@ -1,8 +1,8 @@
-/* Paths of a passthrough: passthrough_paths.h. They are needed only when a machine migrates (passthrough_save.c and
- * passthrough_load.c), on the transport's own thread; what serves requests walks no path.
- *
- * A path that /proc shows is a hint: whoever may write to the folder can rename, replace or unlink what it leads to at any
- * time. So each is looked at from the folder on, and is used only if the very file is there. */
+/* Paths of a passthrough: passthrough_paths.h. They are needed only when a virtual machine migrates
+ * (passthrough_save.c and passthrough_load.c), on the transport's own thread; requests are served without paths. A
+ * path that /proc shows is only a hint, because anyone who can write to the directory can rename, replace or
+ * unlink its parts at any time. So each path is checked from the shared directory on, and is used only if it leads
+ * to the same file. */
 #define _GNU_SOURCE
 #include <fcntl.h>
 #include <linux/openat2.h>
@@ -33,8 +33,8 @@ int paths_begin(struct paths *paths, struct nodes *nodes)
 	return 0;
 }
 
-/* Linux refuses what leads out of the directory, by `..`, by / or by a symbolic link, also if somebody renames what is on
- * the way (RESOLVE_BENEATH). Another mount below is entered. */
+/* With RESOLVE_BENEATH, Linux refuses a path that leads out of the directory, by `..`, by / or by a symbolic link,
+ * even if a part of it is renamed meanwhile. A mount below the directory is entered. */
 int open_in(int directory, const char *path, int flags)
 {
 	struct open_how how = { .flags = (uint64_t)(flags | O_CLOEXEC | O_NOFOLLOW),

@@ -1,12 +1,14 @@
-/* Saves the state of a passthrough (passthrough_state.h), with which another server goes on with a machine.
+/* Saves the state of a passthrough (passthrough_state.h), with which another server continues to serve a virtual
+ * machine.
  *
- * The transport's own thread does it, while no request is in flight: so no worker changes nodes or files. Others may change
- * the folder at any time.
+ * The transport's own thread does it, while no request is in flight, so no worker changes nodes or files. Others
+ * may change the directory at any time.
  *
- * Each node goes as its parent's entry and its name there. Where Linux knows the path of a node, its directories get
- * entries from the folder down to it. Where it knows none, as of a file whose first name was unlinked, the node's own
- * hint is tried, then the directories that the client knows are read, and at last all of the folder, up to a number of
- * names that grows with the nodes: a machine that stands still must not wait for a folder without end. */
+ * Each node is saved as its parent's entry and its name there. If Linux knows the path of a node, its directories
+ * get entries from the shared directory down to it. If not, as for a file whose first name was unlinked, the
+ * node's own hint is tried; then the directories that the client knows are searched, and finally all of the shared
+ * directory. The number of names that this may read grows with the number of nodes, because a stopped machine must
+ * not wait for an unlimited directory. */
 #define _GNU_SOURCE
 #include <errno.h>
 #include <fcntl.h>
@@ -23,7 +25,7 @@
 #include "say.h"
 
 enum { MOST_MOUNTS = 1024, FIRST_PIECES = 256 };
-/* How many names a search looks at: so many, and besides so many for each node. */
+/* The limit of names in a search: NAMES, and NAMES_OF_NODE for each node. */
 enum { NAMES = 1000000, NAMES_OF_NODE = 64 };
 
 /* A directory that the client does not know, and its entry. In the table a free place has the entry of the folder. */
@@ -37,7 +39,8 @@ struct saving {
 	transport_state *to;
 	struct paths paths;
 	struct state_end end;
-	/* How many entries there are; and that of each node by its slot, plus one: 0 is none. */
+	/* The number of entries; and the entry of each node by its slot, plus one, where 0 means that it has no
+	 * entry. */
 	uint32_t entries;
 	uint32_t *entry_of;
 	size_t entry_of_count;
@@ -107,7 +110,7 @@ static bool has_handles(const struct saving *s)
 	return is_by_handles(s) || s->all->options.verifies;
 }
 
-/* The number of a mount among those that were put; MOST_MOUNTS: it is none of them. */
+/* Returns the number of a mount among those that were saved, or MOST_MOUNTS. */
 static uint32_t mount_number(const struct saving *s, const struct host_mount *mount)
 {
 	for (size_t i = 0; i < s->mount_count; i++)
@@ -146,8 +149,8 @@ static int note_entry(struct saving *s, uint64_t number)
 	return 0;
 }
 
-/* Puts a node. `fd` is a descriptor of it for its handle; -1: there is none. A node without a place and without a handle
- * goes too: the other server has its number then, and the client sees an error where it uses it. */
+/* Saves a node. `fd` is a descriptor of it, from which its handle is taken, or -1. A node without a place and a
+ * handle is saved too, so that the other server knows its number, and the client gets an error when it uses it. */
 static int put_node(struct saving *s, const struct node *node, int fd, struct place place)
 {
 	const bool by_handles = is_by_handles(s), is_root = node->counted.number == ROOT_NODE;
@@ -216,8 +219,8 @@ static int grow_ancestors(struct saving *s)
 	return 0;
 }
 
-/* Puts a DIRECTORY, if it has no entry yet. NOWHERE in `*entry`: there are too many, which a client that forgets
- * directories could cause. (Linux's keeps those above what it knows.) */
+/* Saves a DIRECTORY, unless it has an entry. `*entry` is NOWHERE if there are too many, which a client that
+ * forgets directories could cause. (Linux's client keeps the directories above those that it knows.) */
 static int put_directory(struct saving *s, struct place place, const struct file_id *id, uint32_t *entry)
 {
 	const struct state_directory result = { place.parent, place.name, strlen(place.name) };
@@ -386,7 +389,7 @@ static int find_first_place(struct saving *s, const struct node *node, const str
 		if (entry == NOWHERE && !look_at(directory.fd, &there) &&
 		    find_path(&s->paths, directory.fd, &there, s->path) > 0)
 			failed = enter_path(s, strlen(s->path), &entry);
-		/* (the name is the node's own, which the caller has in hand) */
+		/* (the name belongs to the node, to which the caller has a reference) */
 		*place = place_in(entry, name);
 	}
 	node_put(&directory);
@@ -581,7 +584,7 @@ static int save_sought(struct saving *s)
 
 /* ---- mounts, open files, and all of it */
 
-/* Notes a directory as that of its mount, if there is none with a shorter path. */
+/* Records a directory as that of its mount, unless one with a shorter path is known. */
 static int note_mount(struct saving *s, uint64_t number)
 {
 	struct grip grip;
@@ -607,8 +610,8 @@ static int note_mount(struct saving *s, uint64_t number)
 	return 0;
 }
 
-/* By handles: names for each mount a directory with which the other server opens its handles. What has no
- * directory among the nodes has none: its nodes go without a handle, and are lost. */
+/* With file handles, saves for each mount a directory with which the other server can open its handles. If a mount
+ * has no directory among the nodes, its nodes are saved without a handle, and are lost. */
 static int save_mounts(struct saving *s)
 {
 	int failed;
@@ -669,9 +672,9 @@ static int save_header(struct saving *s)
 	return put(s, s->record, STATE_HEADER);
 }
 
-/* The order is that of loading: mounts before the nodes whose handles they open, parents before what is in them, and nodes
- * before the files that are open of them. Locks cannot go: another process has no share in a description here, and
- * to drop them would deceive who has one. */
+/* The order is that of loading: mounts before the nodes whose handles they open, parents before their entries, and
+ * nodes before their open files. Locks cannot be migrated: another process does not share the open file
+ * description, and dropping them would deceive their owner. */
 static int save_all(struct saving *s)
 {
 	if (s->all->locks && locks_are_held(s->all->locks))
@@ -682,7 +685,7 @@ static int save_all(struct saving *s)
 	if (save_header(s) || save_mounts(s) || save_node(s, ROOT_NODE) || for_each_node(s, save_node) ||
 	    save_sought(s) || save_files(s))
 		return -1;
-	/* (the sum is of what is before the end) */
+	/* (the sum covers everything before the end record) */
 	if (put_record(s, STATE_END, state_encode_end(&s->end, s->record + STATE_RECORD)))
 		return -1;
 	if (s->lost)

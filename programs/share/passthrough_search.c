@@ -1,14 +1,12 @@
-/* A search below the folder of a passthrough: passthrough_search.h.
+/* A search below the directory of a passthrough: passthrough_search.h. It runs while a virtual machine is stopped,
+ * in a directory that a guest may have filled. So its memory does not grow with the directory. The directories
+ * from the shared one down to the current one are a stack of levels, and each level has the names of some of its
+ * directories that are still to be visited. If there are more, the directory is read further once these are done.
+ * All names together have a fixed size.
  *
- * It runs while a machine stands still, in a folder that a guest may have filled. So its memory does not grow with the
- * folder: the directories from the folder down to the one that is read are a stack of levels, and each level has the names
- * of some of its directories, which are still to be visited. If there are more, the directory is read on from where it was,
- * once these are done. All names together have a fixed size.
- *
- * Only the directory that is read is open, and the one above it. On the way back it is opened again as `..` of the one
- * below, and must be the directory of before; one that was moved meanwhile is opened by its names from the folder on.
- *
- * A directory that is moved while the search runs may be missed, or looked at twice. */
+ * Only the current directory and the one above it are open. On the way back, the upper one is opened again as `..`
+ * of the lower one, and must be the same directory as before; one that was moved meanwhile is opened by its names
+ * from the shared directory on. A directory that is moved while the search runs may be missed, or searched twice. */
 #define _GNU_SOURCE
 #include <dirent.h>
 #include <fcntl.h>
@@ -41,7 +39,7 @@ struct level {
 struct search {
 	const struct paths *paths;
 	const struct seeker *seeker;
-	/* What is sought, in chains by inodes, until it is found. `mask` is one less than their number. */
+	/* The files to find, in chains by inode. `mask` is the number of chains minus one. */
 	struct sought **chains;
 	size_t mask;
 	/* How many are left, and how many of these are mounted. */
@@ -217,8 +215,8 @@ void search_directory(struct search *s, int fd, uint32_t entry)
 
 /* ---- all directories */
 
-/* Keeps the name of a directory that is to be visited. False: there is no space for it, which there always is for the
- * first one. */
+/* Stores the name of a directory to visit. Returns false if there is no space, which cannot happen for the first
+ * one. */
 static bool keep_name(struct search *s, struct level *level, const char *name)
 {
 	const uint32_t len = (uint32_t)strlen(name) + 1;
@@ -232,8 +230,8 @@ static bool keep_name(struct search *s, struct level *level, const char *name)
 	return true;
 }
 
-/* Looks at names of a directory, from where it was left on, until it ends or as many directories are to be visited as names
- * are kept. */
+/* Reads names of a directory from its current position, until it ends or there is no space for more names of
+ * directories. */
 static void read_level(struct search *s, int fd, struct level *level)
 {
 	ssize_t got = -1;
@@ -289,8 +287,9 @@ static int if_level(const struct search *s, int fd)
 	return -1;
 }
 
-/* Opens the directory of the level by its names from the folder on, or the deepest one above it that is still there, whose
- * level is the last one then. -1: there is none. It is one walk, because the names may be changed again and again. */
+/* Opens the directory of the level by its names from the shared directory on, or the deepest one above it that
+ * still exists, which becomes the current level. Returns -1 if there is no such directory. Only one walk is tried,
+ * because the names may be changed again and again. */
 static int open_by_names(struct search *s)
 {
 	const int most = s->depth;
@@ -312,8 +311,8 @@ static int open_by_names(struct search *s)
 	return fd;
 }
 
-/* Goes back to the level above the one whose descriptor this is, or to the next one above whose directory is still there:
- * its descriptor; -1: there is none. */
+/* Goes back to the level above that of the descriptor `below`, or to the next one above whose directory still
+ * exists. Returns its descriptor, or -1. */
 static int go_back(struct search *s, int below)
 {
 	int fd;
@@ -335,7 +334,7 @@ static int visit(struct search *s, int fd)
 
 	level->visited = level->next;
 	level->next += (uint32_t)strlen(name) + 1;
-	/* (what is deeper is not searched) */
+	/* (deeper directories are not searched) */
 	if (s->depth + 1 == MOST_LEVELS)
 		return fd;
 	below = open_in(fd, name, O_RDONLY | O_DIRECTORY);

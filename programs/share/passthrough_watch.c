@@ -1,21 +1,20 @@
-/* A watch of the files that a client knows: passthrough_watch.h.
+/* A watch of the files that a client knows: passthrough_watch.h. It uses fanotify(7), which reports changes of a
+ * file by whichever name, and whether this process made them. A client's own changes need no notification. Only
+ * single files are marked, which requires no capability, and no file is reported that the server cannot open.
+ * Files are identified by their handles.
  *
- * It uses fanotify(7), which tells of a file whoever changes it by whichever name, and whether it
- * was this process: what a client does by requests is known to it. Marks are of single files, which takes
- * no capability, and nothing is told of files that the server can't open. A file is known by its handle.
+ * A separate thread sends the notifications, because the kernel may wait in one for requests that must be served
+ * meanwhile. A name that is looked up meanwhile is dropped after the reply, for which the notification waits;
+ * attributes that are sent meanwhile are dropped by the kernel, if it has the file already. So attributes are
+ * cached for long if GETATTR or STATX returned them, and for a second if the entry of a new file did.
  *
- * Notices are sent by a thread of its own: the kernel may wait in one for requests that are answered
- * meanwhile. A name that is looked up meanwhile is dropped after the reply, for which the notice waits;
- * attributes that are told meanwhile are dropped by the kernel, if it has the file already. So attributes
- * hold for long if GETATTR or STATX told them, and for a second with what names the file first.
+ * If there are more events than the thread can read, or events are lost, all that the client caches is invalid:
+ * its names by INC_EPOCH, which Linux supports since 6.16, and the attributes and data of each file. Before 6.16
+ * names are cached for a minute. Writes to a mapping are reported once it is closed.
  *
- * If more happens than is taken, or if what is to be told is lost, all that the client remembers is old:
- * its names by INC_EPOCH, which Linux has from 6.16 on, and the attributes and bytes of each file.
- * Before, names hold for a minute. What is written to a mapping is told once that is closed.
- *
- * Workers add and remove files, each under the lock of its part; the thread looks files up, under one
- * such lock at a time, and sends no notice under any. A node may go between the two: no
- * other one gets its number, and the kernel refuses a notice of what it doesn't know. */
+ * Workers add and remove files, each under the lock of its part. The thread finds files under one such lock at a
+ * time, and sends no notification under any. A node may be removed between the two: no other node gets its number,
+ * and the kernel refuses a notification for a node that it does not know. */
 #define _GNU_SOURCE
 #include <errno.h>
 #include <fcntl.h>
@@ -34,10 +33,9 @@
 #include "passthrough_watch.h"
 #include "say.h"
 
-/* In how many parts files are, and with how many chains each begins; how many bytes of events are read
- * at once; how many nodes one file may have here; how many files may have changed between two
- * tellings, of which half are used so that a free place is near; how many nodes of a chain are told
- * under one locking. */
+/* PARTS: the number of parts of the table; FIRST_CHAINS: the initial number of chains of each; EVENTS: the size of
+ * a read; MOST_ALIKE: how many nodes of one file there may be; CHANGED: how many changed files are collected, of
+ * which half are used so that a free place is near; EACH: how many nodes of a chain are reported under one lock. */
 enum { PARTS = 64, FIRST_CHAINS = 64, EVENTS = 65536, MOST_ALIKE = 64, CHANGED = 4096, EACH = 256 };
 /* In milliseconds: how long events gather; how long it rests once some were lost; how often it looks whether there is a
  * client; and how long names hold where they can't be dropped all at once. */
@@ -45,15 +43,15 @@ enum { GATHER = 1, REST = 100, LOOK = 20, MINUTE = 60000 };
 /* How many times events are read that are not looked at, since all is old. */
 enum { MOST_DRAINED = 64 };
 
-/* What is asked of fanotify: of a directory what happens to names in it, also those of directories,
- * and to its own attributes; of a file what happens to its bytes and attributes, and that one who
- * could write has closed it. */
+/* The fanotify events: for a directory, changes of its entries, also those that are directories, and of its own
+ * attributes; for a file, changes of its data and attributes, and that it was closed after it was open for
+ * writing. */
 #define IN_DIRECTORY (FAN_CREATE | FAN_DELETE | FAN_MOVED_FROM | FAN_MOVED_TO)
 #define OF_DIRECTORY (IN_DIRECTORY | FAN_ATTRIB | FAN_ONDIR)
 #define OF_FILE (FAN_MODIFY | FAN_CLOSE_WRITE | FAN_ATTRIB)
 
-/* A file that is watched: it is its node's, and is freed with that. `next` is guarded by the lock of
- * its part, and what has no other comment stays as it was made. */
+/* A watched file. It belongs to its node, and is freed with it. `next` is protected by the lock of its part;
+ * fields without a comment do not change. */
 struct watched {
 	struct watched *next;
 	/* 0: no client knows it yet. */
@@ -79,8 +77,8 @@ struct changed {
 };
 
 struct watch {
-	/* The descriptors of the group of fanotify, of /proc/self/fd, which isn't its own, and of an
-	 * eventfd that ends the thread. `own` is this process, as events tell it. */
+	/* The descriptors of the fanotify group, of /proc/self/fd, which it does not own, and of an eventfd that
+	 * ends the thread. `own` is the id of this process in events. */
 	int group, proc, stop;
 	pid_t own;
 	transport_notices *notices;
@@ -90,7 +88,7 @@ struct watch {
 	atomic_bool said;
 	pthread_t thread;
 	struct part parts[PARTS];
-	/* The thread's: events, and what they changed, by its number. */
+	/* Used only by the thread: events were lost; and the files that have changed. */
 	bool is_lost;
 	size_t count;
 	struct changed changed[CHANGED];
@@ -174,7 +172,7 @@ uint64_t watch_longest(const struct watch *all)
 
 /* ---- files */
 
-/* Twice as many chains, if there is memory. False: there are none. */
+/* Doubles the number of chains. Returns false if out of memory and there are no chains yet. */
 static bool grow_part(struct part *part)
 {
 	const size_t size = part->size ? 2 * part->size : FIRST_CHAINS;
@@ -234,7 +232,7 @@ struct watched *watch_add(struct watch *all, int fd, bool is_directory)
 		made->type = (uint32_t)handle->handle_type;
 		made->size = handle->handle_bytes;
 		memcpy(made->bytes, handle->f_handle, made->size);
-		/* (a mark that is there already is no error: the host has one of a file) */
+		/* (an existing mark is not an error, because the host has only one for a file) */
 		part = part_of(all, made->hash);
 		pthread_mutex_lock(&part->lock);
 		error = !grow_part(part) ? ENOMEM : mark(all, FAN_MARK_ADD, fd, is_directory) < 0 ? errno : 0;
@@ -276,7 +274,7 @@ void watch_remove(struct watch *all, struct watched *watched, int fd)
 	struct watched **at;
 
 	pthread_mutex_lock(&part->lock);
-	/* (if it fails too much is told, of a file that isn't found here) */
+	/* (if this fails, events of a file that is not watched here are ignored) */
 	if (!has_other(part, watched))
 		mark(all, FAN_MARK_REMOVE, fd, watched->is_directory);
 	at = chain_of(part, watched->hash);
@@ -306,16 +304,16 @@ static unsigned find(struct watch *all, const struct file_handle *handle, uint64
 
 /* ---- notices */
 
-/* 0, or an error: ENOTCONN before INIT was answered or after unmounting, ENOENT where the kernel
- * doesn't know the node or the name. look_for_epoch() alone acts on one: what the client doesn't know
- * it doesn't remember either. */
+/* Sends a notification. Returns 0 or an error: ENOTCONN before INIT was replied to or after unmounting, ENOENT if
+ * the kernel does not know the node or the name. Only look_for_epoch() uses the result, because the client caches
+ * nothing of a node that it does not know. */
 static int send_notice(struct watch *all, const void *notice, size_t len)
 {
 	return len ? fuse_device_notify(all->notices, notice, len, NULL, 0) : EINVAL;
 }
 
-/* What is remembered of a file is old: its attributes, or its bytes too. (At offset -1 no bytes are
- * meant, and of length 0 all up to the end are.) */
+/* Invalidates the cached attributes of a file, or its data too. (With offset -1 no data are invalidated, and with
+ * length 0 all up to the end.) */
 static void tell_file(struct watch *all, uint64_t node, bool has_data)
 {
 	unsigned char notice[64];
@@ -341,7 +339,7 @@ static int tell_all_names(struct watch *all)
 	return send_notice(all, notice, nizwarf_notice_inc_epoch(notice, sizeof(notice)));
 }
 
-/* Looks whether that can be told, once there is a client. */
+/* Checks whether the client supports INC_EPOCH, once there is a client. */
 static void look_for_epoch(struct watch *all)
 {
 	const int error = atomic_load(&all->has_epoch) ? ENOTCONN : tell_all_names(all);
@@ -368,7 +366,7 @@ static int copy_chain(struct part *part, size_t at, size_t skip, uint64_t *nodes
 	return count;
 }
 
-/* All that is remembered is old. (While chains become more, one that is before has what is then after.) */
+/* Invalidates everything. (While the number of chains grows, a file may move to a chain that was not visited yet.) */
 static void tell_all(struct watch *all)
 {
 	uint64_t nodes[EACH];
@@ -391,7 +389,7 @@ static void tell_all(struct watch *all)
 
 /* ---- events */
 
-/* Tells of what was changed since. */
+/* Sends notifications for the collected files. */
 static void tell_changed(struct watch *all)
 {
 	for (size_t i = 0; i < CHANGED && all->count; i++) {
@@ -405,8 +403,8 @@ static void tell_changed(struct watch *all)
 	}
 }
 
-/* Notes that a file changed, in a table of open addressing: a node that changes many times is told of
- * once. When it is half full it is told and emptied, so a free place is always found. */
+/* Collects a changed file in a table with open addressing, so that a node that changes often is reported once.
+ * When the table is half full it is reported and emptied, so a free place is always found. */
 static void note(struct watch *all, uint64_t node, bool has_data)
 {
 	size_t at = (node ^ node >> 32) % CHANGED;
@@ -422,8 +420,8 @@ static void note(struct watch *all, uint64_t node, bool has_data)
 	all->changed[at].has_data |= has_data;
 }
 
-/* Takes what an event says of one file: of itself, or of a name in it. (What the client did by one of several nodes
- * it doesn't know of the others.) */
+/* Handles an event of one file: of itself, or of a name in it. (A client that knows a file by several nodes does
+ * not know that its change by one of them concerns the others.) */
 static void take_record(struct watch *all, uint64_t mask, bool is_own, const struct file_handle *handle,
 			const char *name)
 {
@@ -432,7 +430,7 @@ static void take_record(struct watch *all, uint64_t mask, bool is_own, const str
 	const unsigned count = find(all, handle, nodes);
 
 	for (unsigned i = 0; i < count && (!is_own || count > 1); i++) {
-		/* (what was made had no name, which is only remembered if that is wanted) */
+		/* (a new name concerns only a client that caches that it does not exist) */
 		if (is_inside && (mask & (IN_DIRECTORY & ~(uint64_t)FAN_CREATE) || all->knows_none))
 			tell_name(all, nodes[i], name);
 		note(all, nodes[i], is_inside || mask & (FAN_MODIFY | FAN_CLOSE_WRITE));
@@ -457,8 +455,8 @@ static void take_event(struct watch *all, const struct fanotify_event_metadata *
 		const struct file_handle *handle = (const void *)record->handle;
 		const char *name = (const char *)handle->f_handle + handle->handle_bytes;
 
-		/* (of what happens to a file itself a directory and a name are told too, which mean
-		 * nothing here; "." is a directory itself) */
+		/* (events of a file itself also have a directory and a name, which are not needed here; "." is a
+		 * directory itself) */
 		if (record->hdr.info_type == FAN_EVENT_INFO_TYPE_FID ||
 		    record->hdr.info_type == FAN_EVENT_INFO_TYPE_DFID)
 			take_record(all, event->mask & ~(uint64_t)IN_DIRECTORY, is_own, handle, NULL);
@@ -492,16 +490,15 @@ static void let_pass(long milliseconds)
 	nanosleep(&pause, NULL);
 }
 
-/* Some events were lost: those that are there need not be looked at, since all is told to be old.
- * Whoever makes more than can be read meanwhile doesn't hold it up: it reads at most MOST_DRAINED times, and
- * what comes later is taken as usual. */
+/* Handles lost events. The pending events need not be read, because everything is invalidated. To limit the time,
+ * it reads at most MOST_DRAINED times; later events are handled as usual. */
 static void begin_anew(struct watch *all)
 {
 	for (int i = 0; i < MOST_DRAINED && read(all->group, all->events, sizeof(all->events)) > 0; i++)
 		;
 	all->is_lost = false;
 	tell_all(all);
-	/* (whoever makes that many changes may go on) */
+	/* (the processes that cause so much may continue) */
 	let_pass(REST);
 }
 

@@ -1,10 +1,11 @@
-/* As whom a worker of a passthrough makes files, and with which capabilities it works. Each worker runs
- * it for itself: Linux has ids and capabilities by threads, and the C library's functions, which change
- * those of all threads, are not used for that.
+/* The user as whom a worker of a passthrough creates files, and its capabilities. Each worker sets its own: Linux
+ * has ids and capabilities for each thread, and the functions of the C library, which change those of all threads,
+ * are not used.
  *
- * A request names who asks, and its client's kernel has looked at permissions. So a worker of root
- * takes these ids for what it makes alone, so that it is theirs; a hostile client may name anyone, and
- * so make files that are root's. A server that isn't root has one user, and makes all as that. */
+ * A request contains the ids of its caller, and the client's kernel has checked permissions. So a worker that runs
+ * as root uses these ids only to create files, which then belong to the caller. A malicious client may send any
+ * ids, and so create files that belong to root. A server that does not run as root creates all files as its own
+ * user. */
 #define _GNU_SOURCE
 #include <errno.h>
 #include <fcntl.h>
@@ -16,7 +17,8 @@
 #include <unistd.h>
 #include "passthrough_call.h"
 
-/* The flag of a SETXATTR of an access control list by who isn't of the file's group; and a group of nobody's. */
+/* The flag of a SETXATTR of an access control list by a caller who is not in the file's group; and the id of no
+ * group. */
 enum { CLEARS_GROUP = 1 };
 #define NO_GROUP (UINT32_MAX - 1)
 
@@ -32,7 +34,7 @@ static int set_capabilities(uint64_t permitted, uint64_t effective)
 	return (int)syscall(SYS_capset, &header, data);
 }
 
-/* Who asks, as ids of the host. */
+/* The caller, as ids of the host. */
 struct who {
 	uint32_t uid, gid, group;
 	bool has_group;
@@ -54,18 +56,16 @@ static int find_who(const struct call *call, struct who *who)
 	return error;
 }
 
-/* Whether a worker takes the ids of who asks. */
+/* Returns whether a worker must change its ids to those of the caller. */
 static bool changes_who(const struct worker *w, const struct who *who)
 {
 	return w->is_root && (who->uid || who->gid || who->has_group);
 }
 
-/* Its kernel has looked at permissions, so the host's don't count; but it is no one who may keep a
- * set-group-ID bit of another group. What is renamed may be another's.
- *
- * Only the effective ids change, and the real ones stay root's, so that it can be root again. With an
- * id above 0 Linux takes the effective capabilities; those that are left are set again. It is followed
- * by become_root(), also if it fails halfway. */
+/* The client's kernel has checked permissions, so those of the host do not apply. But the worker must not keep a
+ * set-group-ID bit of another group, and may rename a file of another user. Only the effective ids change, so that
+ * the worker can become root again. When the effective id becomes non-zero, Linux clears the effective
+ * capabilities, so those that are kept are set again. It must be followed by become_root(), even if it fails. */
 int become(const struct call *call)
 {
 	const nizwarf_call *asked = call->asked;
@@ -167,7 +167,7 @@ void lose_fsetid(const struct call *call)
 		return;
 	if (ids_to_host(&call->all->options.groups, call->asked->gid, &group))
 		group = NO_GROUP;
-	/* (root's group is that of many files; and it isn't always said whose it is who asks) */
+	/* (root's group is that of many files, and a request does not always contain the caller's group) */
 	syscall(SYS_setfsgid, group == UINT32_MAX ? NO_GROUP : group);
 	set_capabilities(all, all & ~(UINT64_C(1) << CAP_FSETID));
 }
@@ -180,12 +180,12 @@ void regain_fsetid(const struct call *call)
 	syscall(SYS_setfsgid, call->worker->gid);
 }
 
-/* What files are made, changed, owned and read with, whoever asks. */
+/* The capabilities that are needed to create, change, own and read files for any caller. */
 static const int kept[] = { CAP_CHOWN, CAP_DAC_OVERRIDE, CAP_FOWNER, CAP_FSETID,
 			    CAP_MKNOD, CAP_SETFCAP,	 CAP_SETGID, CAP_SETUID };
 
-/* Leaves the calling thread these, as far as it had them, and tells which: -1 with errno. None comes
- * back later: they are no longer permitted. */
+/* Reduces the calling thread's capabilities to these, and fills in which of them it had. Returns -1 with errno on
+ * error. The others cannot be regained, because they are no longer permitted. */
 static int limit(uint64_t *left, const struct passthrough_options *options)
 {
 	struct __user_cap_header_struct header = { _LINUX_CAPABILITY_VERSION_3, 0 };

@@ -1,11 +1,11 @@
-/* Rules of extended attributes: passthrough_xattrmap.h. They are read once, from --xattrmap, before a
- * worker begins, and never change: so any number of threads translate at once, without a lock.
+/* Rules of extended attributes: passthrough_xattrmap.h. They are parsed once, from --xattrmap, before a worker
+ * starts, and never change, so any number of threads may translate at once without a lock.
  *
- * A rule is TYPE, SCOPE, KEY and PREPEND, each between two of the sign that it begins with, as in
- * :prefix:client:trusted.:user.virtiofs.: A map rule has no SCOPE. Spaces stand between rules alone.
+ * A rule consists of TYPE, SCOPE, KEY and PREPEND, each between two separators, as in
+ * :prefix:client:trusted.:user.virtiofs.: The first character of a rule is its separator. A map rule has no SCOPE.
+ * White space is allowed only between rules.
  *
- * A text that has no rule for what is left is refused: so whoever looks for the rule of a name finds
- * one. */
+ * A text without a rule for all other names is refused, so that a rule is found for each name. */
 #define _GNU_SOURCE
 #include <errno.h>
 #include <stdbool.h>
@@ -14,9 +14,9 @@
 #include <string.h>
 #include "passthrough_xattrmap.h"
 
-/* What becomes of a name: PREFIX: the text is prepended for the host, and taken away for the client;
- * OK: it stays as it is; BAD: EPERM, and it isn't listed; UNSUPPORTED: EOPNOTSUPP, and it isn't listed
- * either. MAP stands for others. */
+/* The effect on a name: PREFIX prepends the text for the host, and removes it for the client; OK leaves it as it
+ * is; BAD refuses it with EPERM, and UNSUPPORTED with EOPNOTSUPP, and both hide it in a listing. MAP is replaced
+ * by other rules. */
 enum type { PREFIX, OK, BAD, UNSUPPORTED, MAP };
 /* (bits of a scope: whose names a rule is about) */
 enum { CLIENT = 1, SERVER = 2, ALL = CLIENT | SERVER };
@@ -30,7 +30,7 @@ struct rule {
 };
 
 struct xattr_map {
-	/* What the rules point into. */
+	/* The memory to which the rules point. */
 	char *text;
 	size_t count;
 	struct rule rules[];
@@ -46,8 +46,7 @@ static bool is_space(char c)
 	return c == ' ' || (c >= '\t' && c <= '\r');
 }
 
-/* Takes what is before the sign: NULL, if that isn't there. It ends with a 0 in place of the sign,
- * and lives as long as the text. */
+/* Returns the text before the separator, or NULL if that is missing. The separator is replaced by a 0. */
 static const char *take(char **rest, char sign)
 {
 	char *from = *rest, *end = strchr(from, sign);
@@ -68,8 +67,8 @@ static int one_of(const char *word, const char *const *known)
 	return -1;
 }
 
-/* Reads one rule, whose sign is the next one: NULL, or what is wrong with it. Scopes are in the order
- * of their bits, so that the number of one and 1 more is CLIENT, SERVER or ALL. */
+/* Parses one rule, whose separator is the next character. Returns NULL, or a message. Scopes are in the order of
+ * their bits, so that the index plus 1 is CLIENT, SERVER or ALL. */
 static const char *read_rule(char **rest, struct rule *rule)
 {
 	static const char *const types[] = { "prefix", "ok", "bad", "unsupported", "map", NULL };
@@ -95,9 +94,10 @@ static const char *read_rule(char **rest, struct rule *rule)
 	return rule->prepend ? NULL : "missing field or separator";
 }
 
-/* Puts in place of a map rule the two or three that it stands for. How many there are then. With a key
- * that is renamed: a client is refused the new name, and isn't told what the host has by the old one;
- * all else stays. Without a key all names are renamed, and what the host has by others isn't told. */
+/* Replaces a map rule by two or three others, and returns their number. With a key, names that begin with it get
+ * the prefix; names of the client that begin with the prefix are refused, and names of the host that begin with
+ * the key are hidden; all others stay. Without a key all names get the prefix, and all other names of the host are
+ * hidden. */
 static size_t expand(struct rule *at)
 {
 	const char *key = at->key, *prepend = at->prepend;
@@ -124,7 +124,7 @@ static bool is_whole(const struct xattr_map *map)
 	return scopes == ALL;
 }
 
-/* Reads the rules of a text, which is taken apart: NULL, or what is wrong. */
+/* Parses all rules. It modifies the text. Returns NULL, or a message. */
 static const char *read_rules(char *rest, struct xattr_map *map)
 {
 	for (;;) {
@@ -155,7 +155,7 @@ static const char *read_rules(char *rest, struct xattr_map *map)
 
 const struct xattr_map *xattr_map_read(const char *text, const char **why, unsigned *rule)
 {
-	/* (a rule has five signs, or four, and then it may stand for three) */
+	/* (a rule has five separators, or four if it is a map rule, which becomes up to three rules) */
 	const size_t most = strlen(text) / 5 + 4;
 	struct xattr_map *map = calloc(1, sizeof(*map) + most * sizeof(*map->rules));
 
@@ -163,7 +163,7 @@ const struct xattr_map *xattr_map_read(const char *text, const char **why, unsig
 	if (map)
 		map->text = strdup(text);
 	*why = map && map->text ? read_rules(map->text, map) : "out of memory";
-	/* (what is wrong with one rule is told with its number; all of them together have none) */
+	/* (a message about one rule has its number; one about all of them has none) */
 	if (*why && map && map->text)
 		*rule = (unsigned)map->count + 1;
 	else if (!*why && !map->count)
@@ -216,6 +216,6 @@ const char *xattr_map_to_client(const struct xattr_map *map, const char *name)
 		return NULL;
 	if (rule->type == PREFIX)
 		name += strlen(rule->prepend);
-	/* (a name that is left without a letter is none) */
+	/* (an empty name is invalid) */
 	return *name ? name : NULL;
 }

@@ -112,9 +112,9 @@ static void grow_table(int root)
 		close(fd);
 }
 
-/* Connects to the socket of the service manager, and returns it; -1: there is none. (As in sd_notify(3), it is a
- * path, or an abstract name that begins with @ in place of a 0. The path is not valid in the sandbox, so it is
- * connected before.) */
+/* Connects to the socket of the service manager and returns it, or -1. (As in sd_notify(3), it is a path, or an
+ * abstract name that begins with @ in place of a 0. The path is not valid in the sandbox, so it is connected
+ * before.) */
 static int meet_manager(void)
 {
 	const char *path = getenv("NOTIFY_SOCKET");
@@ -166,8 +166,8 @@ static int go_to_background(void)
 }
 
 /* The sockets of the service manager and of the parent process, which wait until the server is ready; and
- * /dev/null, if the server goes to the background or prints nothing. -1: there is none. Both the server and the
- * process outside of the sandbox have these descriptors, and both close them. */
+ * /dev/null, if the server goes to the background or prints nothing. -1 if unused. Both the server and the process
+ * outside of the sandbox have these descriptors, and both close them. */
 static int manager = -1, starter = -1, nothing = -1;
 
 /* Lets go of those who wait, and of output, but for that which is logged. */

@@ -87,7 +87,7 @@ static void hold_mount_together(void)
 	/* (a node that is held by a handle has no descriptor by which it is marked) */
 	if (words.watches && words.files.file_handles != HANDLES_NEVER)
 		refuse("--watch and --inode-file-handles cannot be combined: watched files must stay open");
-	/* (the server does not see what a client writes itself) */
+	/* (the server does not see data that a client writes itself) */
 	if (words.files.passthrough && words.files.capability)
 		refuse("--passthrough cannot be combined with an --xattrmap that renames " XATTR_NAME_CAPS
 		       ": Linux drops file capabilities only under that name");

@@ -101,7 +101,7 @@ static void do_asked(struct server *server)
 
 /* Waits for a signal of the signalfd `signals`, and handles requests of the server meanwhile, so that a signal
  * also ends a server that does not become ready because a file system does not respond. Returns the number of the
- * signal; 0: there is none yet; -1: the server has not exited in time. */
+ * signal, or 0 if none has arrived, or -1 if the server has not exited in time. */
 static int await_signal(struct server *server, int signals)
 {
 	const bool is_to_end = server->end >= TOLD || (server->end == UNMOUNTED && server->may_ask);

@@ -323,7 +323,7 @@ void take_options(char *rest)
 /* The long options, as numbers above those of letters. Their order matters: those from CACHE to TRACE are accepted
  * by -o too; those from MIGRATION_MODE to CONFIRM_PATHS are for migration. */
 enum word {
-	/* The directory, where it is served, and who may connect. */
+	/* The directory, where it is served, and which group may connect. */
 	SHARED_DIR = 256,
 	SOCKET_PATH,
 	FD,
