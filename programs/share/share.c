@@ -41,8 +41,8 @@
 #include "trace.h"
 
 enum { LARGE_TABLE = 65536 };
-/* Descriptors besides those of the folder's files: of a mount, with a device and a pipe for each
- * worker; of a socket, with two for each queue, if there are as many as workers. */
+/* Descriptors besides those of files: for a mount, including a device and a pipe for each worker; for a socket,
+ * including two for each queue, if there are as many queues as workers. */
 enum { OF_MOUNT = 16, OF_MOUNT_WORKER = 3, OF_RING_WORKER = 2, OF_SOCKET = 24, OF_SOCKET_WORKER = 2 };
 /* How many requests of each processor may wait for locks over io_uring. */
 enum { MOST_WAITING = 63 };
@@ -96,8 +96,8 @@ static void raise_limit(void)
 			words.most_files, (unsigned long long)limit.rlim_max);
 }
 
-/* Makes the table of descriptors as large as most folders want. To grow it while there are threads
- * takes milliseconds each time, in which no request is answered. */
+/* Grows the table of descriptors to a size that suffices for most directories. Growing it later, with several
+ * threads, takes milliseconds each time, during which no request is served. */
 static void grow_table(int root)
 {
 	struct rlimit limit;
@@ -170,7 +170,7 @@ static int go_to_background(void)
  * outside of the sandbox have these descriptors, and both close them. */
 static int manager = -1, starter = -1, nothing = -1;
 
-/* Lets go of those who wait, and of output, but for that which is logged. */
+/* Closes the descriptors of those who wait, and standard output and error, unless messages are logged. */
 static void go_quiet(void)
 {
 	for (int i = words.daemonizes ? 0 : 2; nothing >= 0 && i <= (words.logs && !words.is_off ? 1 : 2);
@@ -193,7 +193,7 @@ static void tell_manager(void)
 	struct pollfd wait[] = { { signalfd(-1, &ending, SFD_CLOEXEC), POLLIN, 0 }, { manager, POLLOUT, 0 } };
 	ssize_t result;
 
-	/* (its socket holds some messages, and who is to take them may wait itself) */
+	/* (the manager's socket has a queue, and the manager may wait itself) */
 	do
 		result = send(manager, ready, sizeof(ready) - 1, MSG_NOSIGNAL | MSG_DONTWAIT);
 	while (result < 0 && errno == EAGAIN && poll(wait, 2, wait[0].fd < 0 ? GUARD_MOST : -1) > 0 &&
@@ -262,8 +262,8 @@ static void remove_at_exit(void)
 	remove_socket(NULL);
 }
 
-/* Looks whether a socket can be made in its directory, so that the message names the socket, and not the file of the
- * process beside it. -1: it can't be, and that was said. */
+/* Checks whether the socket can be created in its directory, so that the message names the socket and not the pid
+ * file beside it. On error prints a message and returns -1. */
 static int look_at_socket(const char *path)
 {
 	char directory[PATH_MAX];
@@ -303,7 +303,7 @@ static int listen_on_socket(const transport *of)
 		exit(1);
 	/* (whatever fails from here on leaves nothing) */
 	atexit(remove_at_exit);
-	/* (it has its mode as soon as it is there: nobody else may connect in between) */
+	/* (so that the socket has its mode from the beginning, and nobody else can connect in between) */
 	before = umask(group ? 0117 : 0177);
 	listener = vhost_user_listen(of, words.socket_path);
 	umask(before);
@@ -316,7 +316,7 @@ static int listen_on_socket(const transport *of)
 	return listener;
 }
 
-/* Whether a path leads to the folder, or below it. (Both are as realpath(3) gives them.) */
+/* Returns whether a path is that of the directory or of a file below it. (Both must be resolved by realpath(3).) */
 static bool is_below(const char *path, const char *folder)
 {
 	const size_t len = strlen(folder);
@@ -339,7 +339,7 @@ static transport by = { .program = "nizwarf-share",
 			.serve = passthrough_serve };
 static int device = -1;
 static transport_notices notices = TRANSPORT_NO_NOTICES;
-/* Without a sandbox: it has mounted, and nobody else unmounts. */
+/* Without a sandbox: the server has mounted, and must unmount. */
 static atomic_bool is_mounted;
 
 /* Without a process outside, this function ends the process at a signal during operations on file systems that may
@@ -352,7 +352,7 @@ static void leave(void)
 	remove_socket(NULL);
 }
 
-/* Makes the socket, and writes the file of the process: their folder may not answer. */
+/* Creates the socket. A file system that does not respond does not block signals. */
 static int listen_guarded(void)
 {
 	int listener;
@@ -429,7 +429,8 @@ static int mount_folder(void *user)
 		 words.allow_other);
 	error = fuse_device_mount_on(&by, device, words.source ? words.source : words.folder,
 				     words.mount_point, words.flags, options);
-	/* (a device that others have too doesn't end with the server, nor a process that a socket leads to) */
+	/* (otherwise this copy of the device would keep the mount alive after the server's end, and that of the
+	 * socket the other process) */
 	if (words.sandbox != SANDBOX_NONE) {
 		close(device);
 		if (words.files.backing >= 0)
@@ -458,7 +459,7 @@ static int limit(struct passthrough *all)
 	const bool opens_handles = words.files.file_handles != HANDLES_NEVER ||
 				   words.files.migration_mode == MIGRATES_BY_HANDLES;
 
-	/* (to unmount takes more than the files do, and each worker limits itself) */
+	/* (unmounting requires more capabilities than serving, so with a mount each worker reduces its own) */
 	if ((!mounts && passthrough_limit(&words.files)) || prctl(PR_SET_NO_NEW_PRIVS, 1, 0, 0, 0))
 		return failed("drop privileges", NULL);
 	if (passthrough_watch(all))
@@ -508,7 +509,7 @@ static int serve(int listener)
 		return 1;
 	if (sandbox_enter((enum sandbox)words.sandbox, words.folder, &root, &proc, &words.files.no_devices))
 		return 1;
-	/* (a mode is the client's, which has taken its own umask off, or says it) */
+	/* (a client applies its umask itself, or sends it) */
 	umask(0);
 	grow_table(root);
 	all = passthrough_new(root, proc, &words.files);
@@ -533,8 +534,9 @@ static int serve(int listener)
 	return status;
 }
 
-/* Looks whether the folder can be shared, as a sandbox would name itself, and not the folder. Status 2: it can't be. (In a
- * namespace of users that has several ids the server may enter more than who started it.) */
+/* Checks whether the directory can be shared, because a message about the sandbox would not name it. Returns
+ * status 2 on error. (In a user namespace with several ids the server may enter more directories than the user who
+ * started it.) */
 static int look_at_folder(void)
 {
 	struct stat seen;
@@ -589,11 +591,11 @@ int main(int count, char **given)
 			"nizwarf-share: warning: ignoring --tag=%s: the tag is an option of the virtual machine\n",
 			words.tag);
 	by.workers = words.files.workers;
-	/* (over a mount data may go by a pipe, and one of this size takes no privilege) */
+	/* (for a mount, data may go through a pipe, whose size must be one that requires no privilege) */
 	words.files.payload = is_mount() ? FUSE_DEVICE_PIPED : TRANSPORT_PAYLOAD;
 	by.quiet = !words.says_more;
-	/* (a client that takes set-user-ID bits away itself does so for truncate(2), but leaves those of a file that OPEN
-	 * truncates: so it truncates by a request of its own) */
+	/* (a client that clears set-ID bits itself does so for truncate(2), but not if OPEN truncates the file; so
+	 * it must truncate by a separate request) */
 	if (!words.files.kills_bits)
 		by.withheld = FUSE_ATOMIC_O_TRUNC;
 	if (words.watches)
@@ -616,7 +618,8 @@ int main(int count, char **given)
 		return failed("open", "/dev/null"), 1;
 	/* (one that came before it serves would leave the file of its process too) */
 	transport_hold_signals(SIG_BLOCK);
-	/* (both while paths lead there, and before it goes to the background, so that a fault is seen) */
+	/* (both must be opened while their paths are valid, and before the program goes to the background, so that
+	 * errors are seen) */
 	if (words.mount_point && (device = fuse_device_open(&by)) < 0)
 		return 1;
 	if (!words.mount_point)

@@ -1,4 +1,4 @@
-/* The capabilities that --modcaps says: share_words.h. */
+/* The capabilities of --modcaps: share_words.h. */
 #define _GNU_SOURCE
 #include <string.h>
 #include <strings.h>
@@ -68,13 +68,13 @@ void take_capabilities(char *rest)
 	while ((one = strsep(&rest, ":"))) {
 		uint64_t bit;
 
-		/* (a colon too many says nothing) */
+		/* (an empty name is ignored) */
 		if (!*one)
 			continue;
 		if (*one != '+' && *one != '-')
 			refuse("--modcaps: capability '%s' must begin with + or -", one);
 		bit = UINT64_C(1) << capability_of(one + 1);
-		/* (of a capability that is said twice the last one counts) */
+		/* (if a capability is given twice, the last one applies) */
 		words.files.more_capabilities &= ~bit;
 		words.files.fewer_capabilities &= ~bit;
 		*(*one == '+' ? &words.files.more_capabilities : &words.files.fewer_capabilities) |= bit;

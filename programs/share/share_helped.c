@@ -27,7 +27,7 @@ void take_from_mount(int count, char **given)
 	if (count < 3)
 		refuse("as a helper of mount(8) it requires a directory and a mount point");
 	helped.is_there = true;
-	/* (mount(8) waits for it to end, and says nothing else: so it comes back once the folder is
+	/* (mount(8) waits for this process to exit, and prints nothing itself; so it exits once the directory is
 	 * mounted) */
 	words.daemonizes = true;
 	words.says_more = false;
@@ -44,7 +44,7 @@ void take_from_mount(int count, char **given)
 		if (found == 'o')
 			take_options(optarg);
 	}
-	/* (an option, as virtiofsd's source=, is no other folder) */
+	/* (an option such as virtiofsd's source= does not change the directory) */
 	words.folder = given[1];
 	words.mount_point = given[2];
 	if (optind + 2 < count)

@@ -13,7 +13,7 @@
 #include <unistd.h>
 #include "share_pid.h"
 
-/* Of a process there is one such file at most. -1: it has none, or left it. */
+/* A process has at most one pid file. -1: it has none, or has left it. */
 static char path[PATH_MAX];
 /* (at an end that is late two threads may remove it) */
 static atomic_int file = -1;
@@ -25,7 +25,8 @@ static int failed(void)
 	return -1;
 }
 
-/* Whether the file still has its name: another server may have removed it before it was locked here. */
+/* Returns whether the file still has its name, because another server may have removed it before it was locked
+ * here. */
 static bool is_there(const struct stat *opened)
 {
 	struct stat seen;
@@ -97,7 +98,7 @@ int pid_file_write(void)
 
 	if (file < 0)
 		return 0;
-	/* (not before: up to here the process may have forked, and the number be another one) */
+	/* (only now, because the process may have forked before, and its id would be another one) */
 	len = snprintf(text, sizeof(text), "%d\n", (int)getpid());
 	return ftruncate(file, 0) || pwrite(file, text, (size_t)len, 0) != len ? failed() : 0;
 }
@@ -120,6 +121,6 @@ void pid_file_remove(void)
 	/* (a file that another server made meanwhile is not removed) */
 	if (!fstat(left, &own) && is_there(&own))
 		unlink(path);
-	/* (the lock goes with it: who waits for that sees the name gone) */
+	/* (closing releases the lock: a server that waits for it sees that the name is gone) */
 	close(left);
 }

@@ -38,7 +38,8 @@ _Noreturn void refuse_usage(const char *format, ...)
 	exit(2);
 }
 
-/* Whether a name is mistyped from another one: it has one letter too many, too few or wrong, or two exchanged. */
+/* Returns whether a name is probably a typo of another: one letter is added, missing or wrong, or two letters are
+ * swapped. */
 static bool is_typo(const char *typed, const char *name)
 {
 	while (*typed && *typed == *name) {
@@ -70,7 +71,7 @@ bool xattr_is_renamed(const char *name, struct xattr_name *host)
 	       strcmp(host->bytes, name) != 0;
 }
 
-/* Refuses options of a mount, for its kernel, that cannot be combined: each line says why. */
+/* Refuses options for a mount's kernel that cannot be combined. */
 static void hold_mount_together(void)
 {
 	if (words.files.passthrough && !is_mount())
@@ -96,7 +97,7 @@ static void hold_mount_together(void)
 		refuse("--allow-direct-io requires --socket-path or --fd");
 }
 
-/* The same of options by which a machine migrates. */
+/* The same for options of migration. */
 static void hold_migration_together(void)
 {
 	if (words.migrates && is_mount())

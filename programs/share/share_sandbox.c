@@ -69,7 +69,7 @@ void sandbox_ready(void)
 /* In seconds: how long the parent waits for the child to exit after a signal, and after SIGKILL. */
 enum { PATIENCE = 3 };
 
-/* How far the end has come: the child serves up to its last user; it is to end; it is killed. */
+/* The state of the end: the server runs; it ends with its last user; it was told to end; it was killed. */
 enum end { NOT_ASKED, UNMOUNTED, TOLD, KILLED };
 
 /* The server, as the parent sees it. It may send requests until it is ready or has exited. */
@@ -119,8 +119,8 @@ static int await_signal(struct server *server, int signals)
 	return (int)said.ssi_signo;
 }
 
-/* Passes a signal on, or has the child end otherwise, which did not by the last one: a number below 0
- * says that its time is over. */
+/* Forwards a signal, or ends the child in a stronger way if an earlier signal did not end it. A negative number
+ * means that its time is over. */
 static void pass_on(struct server *server, int signal)
 {
 	const union sigval unmounted = { .sival_int = FUSE_DEVICE_UNMOUNTED };
@@ -131,14 +131,14 @@ static void pass_on(struct server *server, int signal)
 		server->end = KILLED;
 		return;
 	}
-	/* (where that is in use it goes with its last user, and the server with it. The signal comes
-	 * first, by whose value the server knows that it is unmounted here.) */
+	/* (A mount that is in use is unmounted when its last user closes it, and then the server ends. The signal
+	 * is sent first, with a value by which the server knows that it is unmounted here.) */
 	if (server->is_mounted && server->end == NOT_ASKED && !sigqueue(server->child, SIGTERM, unmounted)) {
 		if (!server->outside->unmount(server->outside->user)) {
 			server->end = UNMOUNTED;
 			return;
 		}
-		/* (one more of the same number would be lost as long as that one isn't taken) */
+		/* (another signal of the same number would be lost while the first one is pending) */
 		signal = SIGHUP;
 	}
 	kill(server->child, signal);
@@ -161,7 +161,8 @@ static _Noreturn void stand_by(pid_t child, int signals, const struct outside *o
 	for (;;) {
 		const int signal = await_signal(&server, signals);
 
-		/* (SIGCHLD comes for what names files too, which it doesn't wait for here) */
+		/* (SIGCHLD is also sent for the process that registers files, for which the parent does not wait
+		 * here) */
 		if (signal == SIGCHLD && waitpid(child, &status, WNOHANG) == child)
 			break;
 		if (!signal || signal == SIGCHLD)
@@ -203,12 +204,12 @@ int sandbox_fork(enum sandbox sandbox, const struct id_map *uids, const struct i
 		return 0;
 	if (sandbox == SANDBOX_NAMESPACE && geteuid() != 0 && users_leave(uids, gids))
 		return -1;
-	/* (that of processes begins with the child; the others are the child's alone) */
+	/* (the process namespace begins with the child; the other namespaces are entered only by the child) */
 	if (sandbox == SANDBOX_NAMESPACE && unshare(CLONE_NEWPID))
 		return failed("create the namespaces of --sandbox=namespace");
 	if (pipe2(asks, O_CLOEXEC) || pipe2(tells, O_CLOEXEC))
 		return failed("create a pipe");
-	/* (before there is a child: so neither of them loses one that comes early) */
+	/* (before the fork, so that neither process loses an early signal) */
 	block_signals(&awaited);
 	signals = signalfd(-1, &awaited, SFD_CLOEXEC);
 	if (signals < 0)
@@ -216,7 +217,7 @@ int sandbox_fork(enum sandbox sandbox, const struct id_map *uids, const struct i
 	child = fork();
 	if (child < 0)
 		return failed("fork");
-	/* (which ends this process, and doesn't come back) */
+	/* (the parent does not return from this) */
 	if (child)
 		stand_by(child, signals, outside);
 	close(signals);
@@ -224,8 +225,8 @@ int sandbox_fork(enum sandbox sandbox, const struct id_map *uids, const struct i
 	close(tells[1]);
 	/* (so that signals of a terminal are sent only to the parent) */
 	setpgid(0, 0);
-	/* The others stay blocked: as the first process of its namespace it would lose one that comes
-	 * before it waits for them. */
+	/* The others stay blocked, because the first process of a namespace would lose a signal that arrives
+	 * before it waits for signals. */
 	sigemptyset(&child_ended);
 	sigaddset(&child_ended, SIGCHLD);
 	sigprocmask(SIG_UNBLOCK, &child_ended, NULL);
@@ -240,8 +241,8 @@ int sandbox_fork(enum sandbox sandbox, const struct id_map *uids, const struct i
 /* (by such a descriptor files are named, and nothing is read) */
 enum { KEEPS_PATH = O_PATH | O_DIRECTORY | O_CLOEXEC };
 
-/* Opens /proc/self/fd, in a namespace of mounts of its own, as the root of a mount that is nowhere: no
- * `..` leads out of it. -1: errno says why. */
+/* Opens /proc/self/fd in its own mount namespace as the root of a mount that is attached nowhere, so that `..`
+ * does not lead out of it. Returns -1 with errno on error. */
 static int open_apart(void)
 {
 	int fd;
@@ -323,7 +324,7 @@ static bool refuse_devices(void)
 #endif
 }
 
-/* Leaves nothing that could be got by executing something, as far as it may: to drop takes
+/* Empties the capability bounding set, so that executing a program cannot regain capabilities. It requires
  * CAP_SETPCAP. */
 static void empty_bound(void)
 {
@@ -331,8 +332,8 @@ static void empty_bound(void)
 		prctl(PR_CAPBSET_DROP, i, 0, 0, 0);
 }
 
-/* What takes a path or a capability comes first, and what gives these up last. The descriptors are the
- * caller's to close, and where it fails it is to end. */
+/* Steps that require a path or a capability come first, and those that drop them last. The caller must close the
+ * descriptors, and must exit on error. */
 int sandbox_enter(enum sandbox sandbox, const char *folder, int *root, int *proc, bool *no_devices)
 {
 	*no_devices = false;
@@ -356,7 +357,7 @@ int sandbox_enter(enum sandbox sandbox, const char *folder, int *root, int *proc
 	*root = open(folder, KEEPS_PATH);
 	if (*root < 0)
 		return failed("open the shared directory");
-	/* (a descriptor is named by its number alone there, for calls that take a path) */
+	/* (for system calls that require a path, a descriptor is then named by its number) */
 	if (fchdir(*proc))
 		return failed("change to '/proc/self/fd'");
 	empty_bound();
@@ -504,8 +505,8 @@ static int let(scmp_filter_ctx rules, const char *const *names, size_t count)
 	return error;
 }
 
-/* Lets a call through whose argument `at` has one of these values: 0, or an error below 0. The kernel looks at the
- * lower 32 bits of the argument alone, and so does the rule. */
+/* Permits a system call if the argument `at` has one of these values. Returns 0 or a negative error. The kernel
+ * uses only the lower 32 bits of the argument, and so does the rule. */
 static int let_values(scmp_filter_ctx rules, int call, unsigned at, const uint32_t *values, size_t count)
 {
 	int error = 0;
@@ -516,10 +517,10 @@ static int let_values(scmp_filter_ctx rules, int call, unsigned at, const uint32
 	return error;
 }
 
-/* Lets through those that a server needs with some arguments alone. Without a namespace of processes others would reach
- * processes of the host, as a signal by tgkill(2) or a limit by prlimit64(2); and new processes and namespaces are of no
- * use to serving. Flags of clone3(2) lie in memory, which a filter does not see: the C library falls back to clone(2)
- * where there is no such call. */
+/* Permits the system calls that a server needs only with some arguments. Without a process namespace other
+ * arguments would affect processes of the host, for example a signal by tgkill(2) or a limit by prlimit64(2); and
+ * serving needs no new processes or namespaces. The flags of clone3(2) are in memory, which a filter cannot read,
+ * so it fails with ENOSYS, and the C library falls back to clone(2). */
 static int let_limited(scmp_filter_ctx rules)
 {
 #ifdef __s390__
@@ -588,8 +589,8 @@ static scmp_filter_ctx begin_rules(enum calls_filter filter)
 	return rules;
 }
 
-/* Has the process go by rules, if there was no error. They are this thread's, and those of all that it
- * makes, for good. */
+/* Loads a filter, unless there was an error. It applies to this thread and all that it creates, and cannot be
+ * removed. */
 static int end_rules(scmp_filter_ctx rules, int error)
 {
 	if (!error)
@@ -625,7 +626,7 @@ int sandbox_filter_backing(enum calls_filter filter)
 	if (!rules)
 		return filter == FILTER_NONE ? 0 : -1;
 	error = let(rules, backing_calls, sizeof(backing_calls) / sizeof(*backing_calls));
-	/* (Linux looks at the lower 32 bits of the number alone, and so do the rules) */
+	/* (Linux uses only the lower 32 bits of the number, and so do the rules) */
 	for (size_t i = 0; i < sizeof(asked) / sizeof(*asked) && !error; i++)
 		error = seccomp_rule_add(rules, SCMP_ACT_ALLOW, SCMP_SYS(ioctl), 2,
 					 SCMP_A0(SCMP_CMP_EQ, BACKING_DEVICE),

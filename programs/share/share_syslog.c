@@ -36,7 +36,7 @@ static bool is_there(void)
 	return came;
 }
 
-/* Logs each line that comes, up to the last one. */
+/* Logs each line until end of file. */
 static _Noreturn void log_lines(int from)
 {
 	static const char name[] = "nizwarf-share: ";
@@ -48,7 +48,7 @@ static _Noreturn void log_lines(int from)
 	signal(SIGTERM, SIG_IGN);
 	signal(SIGHUP, SIG_IGN);
 	openlog("nizwarf-share", LOG_PID | LOG_NDELAY, LOG_USER);
-	/* (the log says the name itself) */
+	/* (the log adds the program's name) */
 	while (lines && fgets(line, sizeof(line), lines))
 		syslog(LOG_NOTICE, "%s", line + (strncmp(line, name, strlen(name)) ? 0 : strlen(name)));
 	_exit(0);
@@ -64,7 +64,7 @@ static _Noreturn void begin_log(const int ends[2])
 		 * waited for) */
 		_exit(child < 0);
 	dup2(ends[0], STDIN_FILENO);
-	/* (who waits for the server's output to end must not wait for the log) */
+	/* (a process that waits for the server's output to end must not wait for the log) */
 	for (int fd = STDOUT_FILENO; fd <= STDERR_FILENO; fd++)
 		close(fd);
 #ifdef SYS_close_range

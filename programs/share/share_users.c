@@ -23,8 +23,7 @@ static int failed(const char *action)
 	return -1;
 }
 
-/* Writes a text to a file in one piece, as the kernel takes a map: once, and whole. 0, or -1 with
- * errno. */
+/* Writes a text to a file with a single write(2), as the kernel requires for a map. Returns 0, or -1 with errno. */
 static int put(const char *path, const char *text)
 {
 	const int fd = open(path, O_WRONLY | O_CLOEXEC);
@@ -35,7 +34,7 @@ static int put(const char *path, const char *text)
 	return is_put ? 0 : -1;
 }
 
-/* Whether a map is of one id, the own one: the kernel lets anyone write that. */
+/* Returns whether a map contains only the own id, which the kernel lets everyone write. */
 static bool is_own(const struct id_map *map, uint32_t own)
 {
 	return map->count == 1 && map->ranges[0].outside == own && map->ranges[0].count == 1;
@@ -50,8 +49,8 @@ static int put_own(const char *path, const struct id_map *map)
 	return put(path, text);
 }
 
-/* Runs newuidmap or newgidmap for a process, which hold the map against subuid(5) or subgid(5).
- * Whether it was written. (The name is looked for in PATH, with the rights of who started the server.) */
+/* Runs newuidmap or newgidmap, which check the map against subuid(5) or subgid(5). Returns whether it was written.
+ * (The program is found in PATH, and runs with the privileges of the user who started the server.) */
 static bool run(const char *program, pid_t of, const struct id_map *map)
 {
 	/* (the process, and three numbers for each range, of at most ten digits) */
@@ -78,9 +77,9 @@ static bool run(const char *program, pid_t of, const struct id_map *map)
 	return child > 0 && waitpid(child, &status, 0) == child && WIFEXITED(status) && !WEXITSTATUS(status);
 }
 
-/* Forks a process that stays outside and writes those maps of this one that are more than its own id,
- * once a byte comes through the pipe. It ends with 0 if they are written; if the pipe is closed
- * before, nothing is written. */
+/* Forks a process that stays outside of the namespace. Once a byte arrives through the pipe, it writes those maps
+ * of this process that contain more than its own id, and exits with 0 on success. If the pipe is closed before, it
+ * writes nothing. */
 static pid_t begin_outside(const int ends[2], const struct id_map *uids, const struct id_map *gids)
 {
 	const pid_t of = getpid();
@@ -133,14 +132,14 @@ int users_leave(const struct id_map *uids, const struct id_map *gids)
 
 	if (pipe2(ends, O_CLOEXEC))
 		return failed("create a pipe");
-	/* (a map that isn't said is of the own id) */
+	/* (by default a map contains the own id) */
 	status = leave(ends, uids->count ? uids : &uid, gids->count ? gids : &gid);
 	close(ends[0]);
 	close(ends[1]);
 	return status;
 }
 
-/* Whether the id 0 of the namespace is one. */
+/* Returns whether the namespace has the id 0. */
 static bool has_root(const struct id_map *map)
 {
 	for (size_t i = 0; i < map->count; i++)
@@ -157,7 +156,7 @@ int users_be_root(const struct id_map *uids, const struct id_map *gids)
 	return 0;
 }
 
-/* (if that can't be read they are taken to be free; where they aren't, setgroups(2) will fail) */
+/* (if that cannot be read, groups are assumed to be changeable; if they are not, setgroups(2) fails) */
 bool users_keep_groups(void)
 {
 	char text[8] = "";

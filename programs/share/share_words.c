@@ -22,7 +22,7 @@
 #include "share_words.h"
 #include "transport.h"
 
-/* How many descriptors, files that a client knows, and workers there may be, if nothing else is said. */
+/* The default limits of descriptors, of files that a client knows, and of workers. */
 enum { MOST_FILES = 1000000, MOST_NODES = 10000000, WORKERS = 4 };
 
 /* The defaults. */
@@ -63,8 +63,8 @@ static unsigned long number(const char *key, const char *value, unsigned long le
 	return n;
 }
 
-/* Which of the words, which end with NULL, the value is, in capitals or not. Callers take the number
- * as that of an enum, whose order is that of the words. */
+/* Returns the index of a value in a list that ends with NULL, ignoring case. Callers use the index as an enum in
+ * the same order. */
 static int one_of(const char *key, const char *value, const char *const *known)
 {
 	/* (each list is a constant of this file, and is shorter) */
@@ -94,8 +94,8 @@ static uint64_t milliseconds(const char *key, const char *value)
 	return (uint64_t)(seconds * 1000 + 0.5);
 }
 
-/* The levels of virtiofsd: from info on is said what isn't wrong, and from debug on each request is
- * traced. */
+/* The log levels of virtiofsd: from info on, messages that are not errors are printed, and from debug on each
+ * request is traced. */
 static void take_log_level(const char *value)
 {
 	static const char *const levels[] = { "off", "error", "warn", "info", "debug", "trace", NULL };
@@ -107,8 +107,8 @@ static void take_log_level(const char *value)
 	words.traces = level >= 4;
 }
 
-/* Takes an option of mount(8) that all file systems have. Whether it is one. The kernel looks at
- * permissions in any case, so default_permissions sets nothing. */
+/* Handles an option of mount(8) for all file systems. Returns whether it is one. The kernel checks permissions
+ * anyway, so default_permissions has no effect. */
 static bool take_flag(const char *key)
 {
 	static const struct {
@@ -132,7 +132,7 @@ static bool take_flag(const char *key)
 	return false;
 }
 
-/* Takes a word of virtiofsd's old options, as managers of machines write them. Whether it is one. */
+/* Handles an old option of virtiofsd, as managers of virtual machines use them. Returns whether it is one. */
 static bool take_switch(const char *key)
 {
 	static const struct {
@@ -188,8 +188,8 @@ static void take_xattr_map(const char *rules)
 /* (in the order of enum sandbox; and so are the others in that of theirs) */
 static const char *const sandboxes[] = { "none", "chroot", "namespace", NULL };
 
-/* The same of those that have a value. (`none` of a cache is virtiofsd's word of old for never, and
- * comes after the others, as no number of the enum is its own.) */
+/* The same for options with a value. (`none` is virtiofsd's old name of the cache policy never; it is the last in
+ * the list, because it has no number in the enum.) */
 static bool take_setting(const char *key, char *value)
 {
 	static const char *const caches[] = { "never", "auto", "always", "metadata", "none", NULL };
@@ -229,12 +229,12 @@ static bool take_of_others(const char *key)
 	return !strncasecmp(key, "x-", 2);
 }
 
-/* Which values an option takes. */
+/* Whether an option has a value. */
 enum values { NO_OPTION, TAKES_NONE, TAKES_ONE };
 
 static enum values values_of_word(const char *key);
 
-/* The same of all that -o takes. */
+/* The same for all options of -o. */
 static enum values values_of(const char *key)
 {
 	static const char *const with[] = { "source",	     "cache",	     "sandbox",		"loglevel",
@@ -251,7 +251,7 @@ static enum values values_of(const char *key)
 	return values_of_word(key);
 }
 
-/* Refuses an option of -o: it is unknown, or lacks its value, or takes none. */
+/* Refuses an option of -o: it is unknown, or its value is missing or not allowed. */
 static _Noreturn void refuse_option(const char *key, const char *value)
 {
 	const enum values takes = take_flag(key) || take_switch(key) ? TAKES_NONE : values_of(key);
@@ -292,8 +292,8 @@ static void take_option(const char *key, char *value)
 		refuse_option(key, value);
 }
 
-/* The next option of a list. In the path of a source a comma is doubled: the two are made one in place, and the
- * option goes on after it. */
+/* Returns the next option of a list. In the path of source= a comma is doubled: each pair becomes one in place,
+ * and does not end the option. */
 static char *next_option(char **rest)
 {
 	char *option = strsep(rest, ",");
@@ -331,7 +331,7 @@ enum word {
 	/* What managers of machines say besides. */
 	TAG,
 	SYSLOG,
-	/* Of a machine that migrates. */
+	/* Migration. */
 	MIGRATION_MODE,
 	MIGRATION_ON_ERROR,
 	VERIFY_HANDLES,
@@ -352,7 +352,7 @@ enum word {
 	/* Features of a mount's kernel. */
 	PASSTHROUGH,
 	WATCH,
-	/* What of the folder is shown, and changed. */
+	/* Which files are shown, and whether they can be changed. */
 	READONLY,
 	NO_READDIRPLUS,
 	ANNOUNCE,
@@ -377,7 +377,7 @@ enum word {
 	SECCOMP,
 	LOG,
 	TRACE,
-	/* Of the process alone, and no options. */
+	/* Only long options, which -o does not accept. */
 	DAEMONIZE,
 	PRINT,
 	VERSION,
@@ -388,13 +388,13 @@ static const struct option known_words[] = {
 	/* The directory, and where it is served. The order is that of the enum. */
 	{ "shared-dir", required_argument, NULL, SHARED_DIR },
 	{ "socket-path", required_argument, NULL, SOCKET_PATH },
-	/* (virtiofsd's word of old) */
+	/* (virtiofsd's old name) */
 	{ "socket", required_argument, NULL, SOCKET_PATH },
 	{ "fd", required_argument, NULL, FD },
 	{ "socket-group", required_argument, NULL, SOCKET_GROUP },
 	{ "tag", required_argument, NULL, TAG },
 	{ "syslog", no_argument, NULL, SYSLOG },
-	/* Of a machine that migrates, and of nothing else. */
+	/* Migration. */
 	{ "migration-mode", required_argument, NULL, MIGRATION_MODE },
 	{ "migration-on-error", required_argument, NULL, MIGRATION_ON_ERROR },
 	{ "migration-verify-handles", no_argument, NULL, VERIFY_HANDLES },
@@ -488,7 +488,7 @@ static void take_translation(const char *key, const char *rule, struct ids *ids)
 		refuse("invalid %s=%s: %s", key, rule, why);
 }
 
-/* Takes a word that has no value, and says that something is so, or not. Whether it is one. */
+/* Handles an option without a value, which sets a flag. Returns whether it is one. */
 static bool take_plain(int word)
 {
 	static const struct {
@@ -544,7 +544,7 @@ static void take_served(int word)
 	if (take_plain(word))
 		return;
 	switch (word) {
-	/* Of a machine that migrates. */
+	/* Migration. */
 	case MIGRATION_MODE:
 		words.files.migration_mode = (enum migration_mode)one_of("--migration-mode", optarg, modes);
 		break;
@@ -659,7 +659,7 @@ static void take_word(int word)
 	}
 }
 
-/* Whether an option is a word's name, with _ in place of -, as virtiofsd's options are written. */
+/* Returns whether an option has this name, with _ in place of -, as virtiofsd's options are written. */
 static bool is_of_word(const char *key, const char *name)
 {
 	for (; *name; key++, name++)
@@ -693,8 +693,8 @@ static bool take_as_word(const char *key, char *value)
 	return false;
 }
 
-/* Refuses a word that getopt_long found to be none, or took for one whose beginning it is: a word that
- * comes later could make the same beginning mean another one. */
+/* Refuses an unknown option. An abbreviation, which getopt_long(3) accepts, is refused too, because a new option
+ * could make it ambiguous. */
 static _Noreturn void refuse_word(int found, const char *word)
 {
 	const char letter[] = { '-', (char)optopt, 0 };
@@ -711,8 +711,8 @@ bool is_mount(void)
 	return !words.socket_path && words.fd < 0;
 }
 
-/* Copies of the words, which are taken apart: /proc shows the process as it was started. They are one
- * piece of memory, the pointers first, and stay for good, as `words` leads into them. */
+/* Returns copies of the arguments, because they are modified and /proc should show the command line as it was.
+ * They are one piece of memory, pointers first, and are never freed, because `words` points into them. */
 static char **copies_of(int count, char **given)
 {
 	/* (volatile, because otherwise the compiler would remove the pointer, and a sanitizer would report a leak) */
@@ -727,7 +727,7 @@ static char **copies_of(int count, char **given)
 		fprintf(stderr, "nizwarf-share: %s\n", strerror(errno));
 		exit(1);
 	}
-	/* (the texts come after the pointers, the last of which is NULL) */
+	/* (the texts follow the pointers, the last of which is NULL) */
 	at = (char *)(copies + count + 1);
 	for (int i = 0; i < count; i++, at += len) {
 		len = strlen(given[i]) + 1;
@@ -746,8 +746,7 @@ static void take_given(int count, char **given)
 		/* (the argument may be the next word) */
 		const char *word = given[optind - 1 - (optarg == given[optind - 1])];
 
-		/* (getopt_long(3) takes a beginning for the word, where it is that of one alone: it is
-		 * refused here) */
+		/* (getopt_long(3) accepts unambiguous abbreviations: they are refused here) */
 		if (found == '?' || found == ':' ||
 		    (i >= 0 && strcspn(word, "=") != strlen(known_words[i].name) + 2))
 			refuse_word(found, word);
@@ -779,7 +778,7 @@ void take_words(int count, char **given)
 		words.filter = has_filter ? FILTER_KILL : FILTER_NONE;
 	/* (each of these is of no use without attributes) */
 	words.files.xattr |= words.files.posix_acl || words.files.xattr_map || words.files.security_label;
-	/* (both the mount and the server hold to it, whichever word said so) */
+	/* (both the mount and the server must be read-only) */
 	if (words.files.read_only)
 		words.flags |= MS_RDONLY;
 	if (words.flags & MS_RDONLY)
