@@ -1,8 +1,7 @@
-/* A passthrough, for the transports: passthrough.h.
- *
- * passthrough_new() makes all that workers share, passthrough_begin() what each has for itself, on its own thread, and
- * passthrough_serve() answers a request there. passthrough_end() is called once no worker is left; but one that waits
- * for a lock of the host may be, and then nothing is freed. */
+/* A passthrough, for the transports: passthrough.h. passthrough_new() creates the objects that workers share,
+ * passthrough_begin() those of each worker, on its own thread, and passthrough_serve() replies to a request there.
+ * passthrough_end() must be called after the last worker has ended; a thread that still waits for a lock of the
+ * host may remain, and then nothing is freed. */
 #define _GNU_SOURCE
 #include <errno.h>
 #include <linux/fuse.h>
@@ -109,7 +108,7 @@ static int32_t answer_call(struct call *call, const nizwarf_session *session, co
 	call->data = call->worker->pieces;
 	call->pieces = pieces < 0 ? 0 : (size_t)pieces;
 	answer->error = pieces < 0 ? ENOMEM : make_call(call);
-	/* (who waits for the lock answers it) */
+	/* (the thread that waits for the lock replies) */
 	if (answer->error == LOCK_WAITS && asked->opcode == NIZWARF_SETLKW)
 		return NIZWARF_CALL;
 	/* (the scratch memory that decoded the request suffices for the reply) */
@@ -127,7 +126,7 @@ static int32_t answer_call(struct call *call, const nizwarf_session *session, co
 	return code;
 }
 
-/* Whether a request gives something back. Its client thinks that it did, whatever the reply is. */
+/* Returns whether a request releases something. Its client assumes that it did, whatever the reply is. */
 static bool gives_back(const struct iovec *request)
 {
 	struct fuse_in_header header;
@@ -261,8 +260,8 @@ static void *close_left(void *given)
 	return NULL;
 }
 
-/* Closes it on a thread of its own, which is waited for a second, as a request is: who comes next would lack its
- * descriptors, and meet its locks, but isn't held up by a file system that does not answer. */
+/* Closes them on a separate thread, and waits for it for a second, as for a request: otherwise the next client
+ * would lack these descriptors and meet these locks; but a file system that does not respond must not block it. */
 static void await_closed(struct left *left)
 {
 	struct timespec until;
@@ -283,7 +282,7 @@ void passthrough_parted(void *user)
 {
 	struct passthrough *all = user;
 	struct left *left = calloc(1, sizeof(*left));
-	/* (first: a late request of it enters nothing from then on, and takes nothing out) */
+	/* (first, so that a late request of the old client adds and removes nothing) */
 	const unsigned next = atomic_fetch_add(&all->nodes.clients, 1) + 1;
 
 	if (left) {
@@ -310,8 +309,8 @@ void passthrough_recall(void *user)
 		locks_recall(all->locks);
 }
 
-/* Looks whether the folder is on a local file system. To such a one it means nothing that a descriptor is
- * closed, and a file that is read ends where bytes of a page are missing. -1: it failed. */
+/* Checks whether the directory is on a local file system. There, closing a descriptor has no effect on the data,
+ * and a read that ends within a page has reached the end of the file. Returns -1 on error. */
 static int look_at_folder(struct passthrough *all, int root)
 {
 	struct statfs result;
@@ -424,7 +423,7 @@ int passthrough_watch(struct passthrough *all)
 
 void passthrough_end(struct passthrough *all)
 {
-	/* (who waits for the host still uses what there is) */
+	/* (a thread that waits for the host still uses the objects) */
 	if (!atomic_load(&all->closing) && (!all->locks || locks_free(all->locks)))
 		free_passthrough(all);
 }

@@ -106,7 +106,7 @@ static int number_of(const struct call *call, int fd)
 	return number > 0 ? number : 0;
 }
 
-/* Whether the file can be opened with O_DIRECT: Linux opens it so, too. */
+/* Returns whether the file supports O_DIRECT, because Linux opens it with that too. */
 static bool takes_direct(const struct call *call, int fd)
 {
 	const int direct = open_again(&call->all->nodes, fd, O_RDONLY | O_DIRECT | O_NONBLOCK | O_NOCTTY);
@@ -114,7 +114,7 @@ static bool takes_direct(const struct call *call, int fd)
 	return direct >= 0 && !close(direct);
 }
 
-/* Whether this open wants O_DIRECT, which the file does not take: Linux would fail the open. */
+/* Returns whether Linux would fail this open: it has O_DIRECT, and the file does not support that. */
 static bool is_refused(const struct call *call, int fd)
 {
 	return call->asked->flags & O_DIRECT && !takes_direct(call, fd);

@@ -28,7 +28,7 @@
 /* The options of INIT of a client that supports access control lists. */
 #define HAS_LISTS (FUSE_POSIX_ACL | FUSE_DONT_MASK | SETXATTR_EXT)
 
-/* ---- helpers: each that answers a number gives 0 or an error */
+/* ---- helpers: those that return an int return 0 or an error */
 
 int failed(int result)
 {
@@ -59,7 +59,7 @@ bool is_plain(const char *name)
 	return *name && strcmp(name, ".") != 0 && strcmp(name, "..") != 0 && !strchr(name, '/');
 }
 
-/* Opens a file or a directory, and nothing else. */
+/* Opens a file or a directory, and no other type. */
 static int open_node(const struct call *call, int flags)
 {
 	const mode_t type = call->node.node->type;
@@ -72,7 +72,7 @@ static int open_node(const struct call *call, int flags)
 	/* (a directory is where its own descriptor leads, whatever has its name now, unless the server may not search it) */
 	fd = type == S_IFDIR ? openat(call->node.fd, ".", flags | O_CLOEXEC) :
 			       open_by_name(&call->all->nodes, call->node.node, flags);
-	/* (by /proc, which takes longer, and needs neither name nor right of the directory) */
+	/* (by /proc, which takes longer, but requires neither a name nor permissions of the directory) */
 	return fd >= 0 ? fd : open_again(&call->all->nodes, call->node.fd, flags);
 }
 
@@ -126,8 +126,7 @@ static int get_statx(const struct call *call)
 	result.mtime = time_of(&seen.stx_mtime);
 	result.rdev_major = seen.stx_rdev_major;
 	result.rdev_minor = seen.stx_rdev_minor;
-	/* (the answer only points to its text, up to when the reply is written: so it is in the worker's
-	 * memory) */
+	/* (the answer points to its text until the reply is encoded, so the text is in the worker's memory) */
 	memcpy(call->worker->text, &result, sizeof(result));
 	call->answer->text = (const uint8_t *)call->worker->text;
 	call->answer->text_len = sizeof(result);
@@ -180,8 +179,7 @@ static int set_owner(const struct call *call, uint32_t valid)
 		error = ids_to_host(&options->users, to->uid, &uid);
 	if (!error && valid & FATTR_GID)
 		error = ids_to_host(&options->groups, to->gid, &gid);
-	/* (the kernel takes capabilities away as an owner changes, but not those under a name that it
-	 * doesn't know) */
+	/* (the kernel clears capabilities when the owner changes, but not under a name that it does not know) */
 	if (!error && call->node.node->type == S_IFREG)
 		error = lose_capability(call, call->node.fd);
 	return error ? error :
@@ -281,8 +279,8 @@ static int flags_of(const struct call *call)
 {
 	const uint32_t flags = call->asked->flags;
 	const unsigned direct = call->all->options.allow_direct ? O_DIRECT : 0;
-	/* (others, as O_CREAT or O_PATH, are the server's to choose: a client can't have it make or
-	 * follow anything) */
+	/* (the server chooses the other flags, such as O_CREAT or O_PATH, so that a client cannot create a file or
+	 * follow a link) */
 	int made = (int)(flags & (O_ACCMODE | O_APPEND | O_TRUNC | O_SYNC | O_DSYNC | O_NOATIME | direct));
 
 	/* The kernel reads pages that are written in part, and knows itself where the end is. */
@@ -326,7 +324,7 @@ static void tell_open(const struct call *call, bool is_directory, int fd, const 
 	case CACHE_AUTO:
 		break;
 	}
-	/* (of what isn't watched nobody says when it is old) */
+	/* (nothing would invalidate the cache of a file that is not watched) */
 	if (call->all->nodes.watch && !is_watched(call))
 		answer->open_flags &= ~(uint32_t)(FOPEN_KEEP_CACHE | FOPEN_CACHE_DIR);
 	backing_tell(call, backing, fd);
@@ -337,8 +335,8 @@ static void tell_open(const struct call *call, bool is_directory, int fd, const 
 		answer->open_flags |= FOPEN_NOFLUSH;
 }
 
-/* Answers an open file of a node, which has the descriptor then, and the open of `backing`: 0, or an error. (Who guesses its
- * number may have released it by then.) */
+/* Adds an open file of a node. It takes over the descriptor and the open of `backing`. Returns 0 or an error. (A
+ * client that guesses the number may have released it already.) */
 static int add_file(const struct call *call, uint64_t node, int fd, int flags, struct backing *backing)
 {
 	tell_open(call, flags & O_DIRECTORY, fd, backing);
@@ -355,7 +353,8 @@ static int open_file(const struct call *call)
 	const int flags = is_directory ? O_RDONLY | O_DIRECTORY : flags_of(call);
 	struct nodes *nodes = &call->all->nodes;
 	struct backing *backing = NULL;
-	/* (before it is opened: one that is open and can't be kept would have cut the file already) */
+	/* (before the file is opened, because an open with O_TRUNC would truncate it even if the descriptor cannot
+	 * be kept) */
 	int fd, error = fd_reserve(nodes, 1);
 
 	if (error)
@@ -386,7 +385,7 @@ static int open_file(const struct call *call)
  * error. */
 static int open_unnamed(const struct call *call, int fd, struct statx *seen)
 {
-	/* (a node holds what opens nothing: the descriptor that can read and write goes with RELEASE) */
+	/* (the node has its own descriptor with O_PATH, because this one is closed by RELEASE) */
 	const int path = open_again(&call->all->nodes, fd, O_PATH);
 	int error;
 
@@ -558,7 +557,7 @@ static int remove_name(const struct call *call, const char *name, int flags)
 
 /* ---- which call it is */
 
-/* Whether a call changes something of the folder. */
+/* Returns whether a call modifies the directory. */
 static bool changes(const nizwarf_call *asked)
 {
 	switch (asked->opcode) {
@@ -587,7 +586,7 @@ static bool changes(const nizwarf_call *asked)
 	}
 }
 
-/* Whether a call makes do with its open file, and needs no descriptor of its node. */
+/* Returns whether a call uses only its open file, and no descriptor of its node. */
 static bool needs_file_alone(const nizwarf_call *asked)
 {
 	switch (asked->opcode) {
@@ -600,11 +599,11 @@ static bool needs_file_alone(const nizwarf_call *asked)
 	}
 }
 
-/* Whether the names that a call has are names in a directory: 0, or an error. */
+/* Checks that the names of a call are valid. Returns 0 or an error. */
 static int check_names(const struct call *call)
 {
 	const nizwarf_call *asked = call->asked;
-	/* (any name that is plain, where a call has one alone) */
+	/* (any valid name, if the call has only one) */
 	const char *name = name_of(call, asked->name), *other = "other";
 
 	switch (asked->opcode) {
@@ -684,7 +683,7 @@ static int make_of_node(const struct call *call)
 	}
 }
 
-/* Whether a call is of a node, which it may name by an open file. */
+/* Returns whether a call is about a node, which it may identify by an open file. */
 static bool is_of_node(const nizwarf_call *asked)
 {
 	return asked->opcode == NIZWARF_GETATTR || asked->opcode == NIZWARF_SETATTR ||
@@ -790,7 +789,7 @@ const char *lacking_option(const struct passthrough *all, uint64_t options)
 	return NULL;
 }
 
-/* INIT: of a new client, or of one that began anew. */
+/* INIT of a new client, or of one that starts again. */
 static int agree(const struct call *call)
 {
 	struct passthrough *all = call->all;

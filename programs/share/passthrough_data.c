@@ -34,8 +34,7 @@ static void move_on(struct iovec **data, size_t *pieces, size_t moved)
 	}
 }
 
-/* Moves data of an open file from or into pieces, as preadv and pwritev do. (Of one piece the calls without a list cost
- * less.) */
+/* Transfers data of an open file, as preadv and pwritev do. (For one piece the calls without a list are faster.) */
 static ssize_t move(int fd, bool is_read, const struct iovec *data, int pieces, off_t at)
 {
 	if (pieces == 1)
@@ -58,7 +57,7 @@ static int transfer(const struct call *call)
 
 	if (asked->offset > INT64_MAX)
 		return is_read ? EINVAL : EFBIG;
-	/* (over /dev/fuse the data may go by a pipe, and by no memory of the server) */
+	/* (over /dev/fuse the data may go through a pipe, without memory of the server) */
 	if (pieces == 1 && is_read)
 		direct = fuse_device_read_from(fd, asked->offset, data->iov_len);
 	if (direct >= 0) {
@@ -88,7 +87,8 @@ static int transfer(const struct call *call)
 			break;
 		done += (size_t)moved;
 		move_on(&data, &pieces, (size_t)moved);
-		/* (what ends within a page ends with the file, and isn't what an error cut) */
+		/* (a read that ends within a page has reached the end of the file, and was not cut short by an
+		 * error) */
 		if (is_read && pieces > others && (asked->offset + done) % PAGE && is_local(call))
 			break;
 	}
@@ -197,7 +197,7 @@ static int allocate(const struct call *call)
 	return error;
 }
 
-/* LSEEK, of SEEK_DATA and SEEK_HOLE alone: the client has the place of its open file itself. */
+/* LSEEK with SEEK_DATA or SEEK_HOLE. Other seeks are done by the client's kernel. */
 static int seek(const struct call *call)
 {
 	const nizwarf_call *asked = call->asked;

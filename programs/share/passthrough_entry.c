@@ -94,7 +94,7 @@ void tell_entry(const struct call *call, uint64_t number, const struct statx *se
 	const bool is_link = call->asked->opcode == NIZWARF_LINK;
 	uint64_t time = name_time(call, is_link ? call->other.node : node, all->entry_time);
 
-	/* (nobody says that it is mounted no longer) */
+	/* (nothing notifies the client when the mount is removed) */
 	if (across && all->nodes.watch && time > SHORT_TIME)
 		time = SHORT_TIME;
 	/* (tell_attr() sets the other fields) */
@@ -145,7 +145,8 @@ int enter_name(const struct call *call, const struct found *found, nizwarf_entry
 	return error;
 }
 
-/* The entry of a name if its file is known, where nothing can be reserved for a new one: or else this error. */
+/* Fills in the entry of a name if its file is known, because no node can be reserved for a new one. Otherwise
+ * returns `error`. */
 static int find_known(const struct call *call, const struct found *found, int error, nizwarf_entry *entry)
 {
 	/* (one descriptor for a moment, which those that are left for calls cover) */

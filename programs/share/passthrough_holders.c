@@ -1,4 +1,4 @@
-/* Who holds locks: passthrough_holders.h. Threads and locks are those of passthrough_locks.c. */
+/* Locks by owner: passthrough_holders.h. Threads and locks are those of passthrough_locks.c. */
 #define _GNU_SOURCE
 #include <errno.h>
 #include <fcntl.h>
@@ -57,8 +57,9 @@ void holder_put(struct locks *all, struct holder *h)
 	free(h);
 }
 
-/* Opens the file again as the client has it open. One that it has open for reading alone is not opened for writing,
- * because a program that is open for writing can't be run. For one that it may write a lock of either kind may come. */
+/* Opens the file again with the access of the client's open file. If that is only for reading, this one is too,
+ * because a file that is open for writing cannot be executed. If the client may write, it may request locks of
+ * both types. */
 static int open_description(const struct call *call, bool *is_writable)
 {
 	const struct nodes *nodes = &call->all->nodes;
@@ -70,8 +71,8 @@ static int open_description(const struct call *call, bool *is_writable)
 	return fd >= 0 ? fd : open_again(nodes, of, mode | AGAIN);
 }
 
-/* Makes a holder that is in no table yet, with the caller as its user. NULL: there is no memory, no descriptor is left,
- * or the host doesn't open the file again. */
+/* Creates a holder that is in no table yet, with the caller as its user. Returns NULL if out of memory or
+ * descriptors, or if the host does not open the file again. */
 static struct holder *new_holder(const struct call *call)
 {
 	struct nodes *nodes = &call->all->nodes;
@@ -133,7 +134,7 @@ struct holder *holder_take(const struct call *call, bool makes)
 
 /* ---- granted locks */
 
-/* Whether an unlock makes two ranges of one. */
+/* Returns whether an unlock splits a range. */
 static bool divides(const struct holder *h, const struct range *cut)
 {
 	for (size_t i = 0; i < h->count; i++)
@@ -185,7 +186,7 @@ bool ranges_meet(const struct range *a, const struct range *b)
 	return a->first <= b->last && b->first <= a->last;
 }
 
-/* Takes bytes from the range at `i`, which has some of them. Whether some are left there. */
+/* Removes bytes from the range at `i`, which overlaps them. Returns whether some of the range is left. */
 static bool cut_range(struct holder *h, size_t i, const struct range *cut)
 {
 	struct range *old = &h->ranges[i];
@@ -343,8 +344,8 @@ int try_range(struct locks *all, struct holder *h, const nizwarf_lock *lock)
 	return error;
 }
 
-/* (A lock of the other type is lost if it can't be changed at once: so Linux has it, and what another file system does is
- * made the same.) */
+/* (A lock of the other type is lost if it cannot be changed at once. Linux does so, and other file systems are
+ * treated the same.) */
 int try_flock(struct open_file *file, uint64_t owner, uint32_t type)
 {
 	int error;

@@ -11,7 +11,7 @@
 #include <strings.h>
 #include "passthrough_ids.h"
 
-/* Whether two ranges have an id in common. */
+/* Returns whether two ranges have an id in common. */
 static bool overlap(const struct id_rule *a, const struct id_rule *b)
 {
 	return a->from < (uint64_t)b->from + b->count && b->from < (uint64_t)a->from + a->count;
@@ -41,8 +41,8 @@ static const char *add(struct id_rules *all, const struct id_rule *rule)
 	return NULL;
 }
 
-/* Reads numbers with a sign between them: how many there are, or -1. Only digits make a number:
- * strtoul() alone would take spaces, and a - before it. */
+/* Parses numbers between separators. Returns how many there are, or -1. Only digits are accepted, because
+ * strtoul() alone would accept white space and a minus sign. */
 static int read_numbers(const char *text, char sign, uint32_t number[3])
 {
 	int count = 0;
@@ -95,13 +95,13 @@ const char *ids_add(struct ids *ids, const char *text)
 	if (!text[len] || read_numbers(text + len + 1, text[len], number) != type->numbers)
 		return type->numbers == 2 ? "the form is forbid-guest:FROM:COUNT" :
 					    "the form is TYPE:FROM:TO:COUNT";
-	/* FROM and COUNT alone. */
+	/* It has only FROM and COUNT. */
 	if (type->how == IDS_FORBIDDEN)
 		return add(&ids->to_host, &(struct id_rule){ number[0], number[1], 0, IDS_FORBIDDEN });
 	/* (a squashing rule makes of COUNT ids the one id TO) */
 	if (type->of_client)
 		why = add(&ids->to_host, &(struct id_rule){ number[0], number[2], number[1], type->how });
-	/* A map goes both ways: the host's ids are its second number, and the client's the first. */
+	/* A map applies in both directions: its second number is the host's id, and the first the client's. */
 	if (!why && type->of_host) {
 		const uint32_t from = number[type->of_client], to = number[!type->of_client];
 
@@ -125,7 +125,7 @@ static const struct id_rule *find(const struct id_rules *all, uint32_t id)
 	return NULL;
 }
 
-/* (the sum doesn't run over: add() looked at the ends) */
+/* (the sum does not overflow, because add() checked the limits) */
 static uint32_t apply(const struct id_rule *rule, uint32_t id)
 {
 	if (!rule)

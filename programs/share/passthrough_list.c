@@ -18,7 +18,7 @@ enum { ENTRIES = 32768, MOST_BUFFERS = 256 };
 
 /* ---- directories */
 
-/* Reads on from an offset, if that isn't where the last reading ended. */
+/* Seeks to an offset, if it is not where the last read ended. */
 static int move_to(struct open_file *file, uint64_t offset)
 {
 	const bool is_first = !file->buffer;
@@ -97,7 +97,7 @@ static nizwarf_dirent *add_item(struct worker *w, size_t count)
 	return &w->items[count];
 }
 
-/* Takes the entries from the items of the listing before. */
+/* Removes the entries of the previous listing from its items. */
 static void clear_entries(struct worker *w)
 {
 	for (size_t i = 0; i < w->entries; i++)
@@ -129,7 +129,7 @@ static bool tells_entries(const struct call *call)
 	return plus && (call->asked->offset || !atomic_load(&call->node.node->lists_names));
 }
 
-/* Puts an item of a directory into the worker's. False: it doesn't fit, or there is no memory. */
+/* Adds a directory entry to the worker's items. Returns false if it does not fit, or if out of memory. */
 static bool put_item(const struct call *call, const struct dirent64 *found, bool entries, struct space *space)
 {
 	const bool plus = call->asked->has & NIZWARF_PLUS;
@@ -190,7 +190,7 @@ static int list(const struct call *call)
 	}
 	if (!error && !next && !space.count)
 		error = errno;
-	/* (a listing of no item says that the directory ends) */
+	/* (a listing without an item means the end of the directory) */
 	if (!space.count)
 		file->is_at_end = false;
 	if (!error && next && !space.count && space.lacks_memory)
@@ -223,7 +223,7 @@ static bool is_list(const char *name)
 	return !strncmp(name, "system.posix_acl_", 17);
 }
 
-/* Whether an attribute is served: 0, or an error. ENOSYS says that none ever is. */
+/* Returns 0 if an attribute is served, or an error. ENOSYS means that no attribute ever is. */
 static int refused(const struct call *call, const char *name)
 {
 	if (!call->all->options.xattr)
@@ -231,8 +231,8 @@ static int refused(const struct call *call, const char *name)
 	return name && is_list(name) && !call->all->options.posix_acl ? EOPNOTSUPP : 0;
 }
 
-/* Turns the client's name of an attribute into the host's: 0, or an error if it isn't served. `*name`
- * leads into the request, or into `host`, which is to live as long. */
+/* Translates the client's name of an attribute to the host's. Returns 0, or an error if it is not served. `*name`
+ * then points to the request or to `host`, which must be valid as long. */
 static int find_name_of(const struct call *call, const char **name, struct xattr_name *host)
 {
 	const struct xattr_map *map = call->all->options.xattr_map;
@@ -245,8 +245,8 @@ static int find_name_of(const struct call *call, const char **name, struct xattr
 	return error;
 }
 
-/* With a map of names the host keeps a file's capabilities under a name that it doesn't know, so it
- * doesn't take them away when the file is changed, as it does those of its own name. */
+/* With --xattrmap, file capabilities may have a name that the host does not know. So the host does not remove them
+ * when the file is changed, as it does under their own name. */
 int lose_capability(const struct call *call, int fd)
 {
 	const char *name = call->all->options.capability;
@@ -257,7 +257,7 @@ int lose_capability(const struct call *call, int fd)
 		return 0;
 	file = name_fd(fd);
 	error = failed(removexattr(file.bytes, name));
-	/* (of a file that the host lets be appended to alone none is removed) */
+	/* (no attribute can be removed from a file that is append-only) */
 	if (error == EPERM && getxattr(file.bytes, name, NULL, 0) < 0)
 		error = errno;
 	return error == ENODATA || error == EOPNOTSUPP ? 0 : error;

@@ -45,13 +45,13 @@ struct loading {
 	struct paths paths;
 	struct state_header header;
 	struct state_end end;
-	/* The sum up to the record. */
+	/* The sum of all bytes before the current record. */
 	uint64_t sum_before;
 	struct entry *entries;
 	size_t count, size, directories;
 	size_t lost, mount_count;
 	int mounts[MOST_MOUNTS];
-	/* The client has not begun a session, so it knows nothing but the folder. */
+	/* The client has not sent INIT, so it knows only the shared directory. */
 	bool has_no_session;
 	char path[PATH_MAX];
 	/* What follows the beginning of a record, and a 0. */
@@ -59,8 +59,8 @@ struct loading {
 	unsigned char body[STATE_LONGEST + 1];
 };
 
-/* Gets `len` bytes, and adds them to the sum. Fewer are the end of the state, and a fault. 0, or -1 if it failed and printed
- * why. So it is with all functions here that return an int and say nothing else. */
+/* Receives `len` bytes, and adds them to the sum. Fewer bytes are an error. On error it prints a message and
+ * returns -1, as do all functions here that return an int, unless they say otherwise. */
 static int get(struct loading *l, void *bytes, size_t len)
 {
 	const ssize_t got = transport_get_state(l->from, bytes, len);
@@ -83,8 +83,8 @@ static const char *printable(char *name)
 	return name;
 }
 
-/* A node or an open file that cannot be had: -1, or 0 if the client is to see that, as an error. The one that ends the
- * loading is printed, or else the first MOST_TOLD. `name` may be changed. */
+/* Handles a node or an open file that cannot be restored. Returns -1, or 0 if the client gets errors for it. An
+ * error that ends the loading is printed, and otherwise the first MOST_TOLD. It may modify `name`. */
 static int lose(struct loading *l, const char *what, uint64_t number, char *name, int error)
 {
 	if (!l->all->options.loses_files || l->lost++ < MOST_TOLD)
@@ -113,7 +113,7 @@ static int add_entry(struct loading *l, uint64_t number, int fd, int error)
 	return 0;
 }
 
-/* Opens a name in the directory of an entry. -1: errno says why. The parent must be below `l->count`. */
+/* Opens a name in the directory of an entry. Returns -1 with errno on error. The parent must be below `l->count`. */
 static int open_name(struct loading *l, uint32_t parent, const char *name, int flags)
 {
 	const struct entry *entry = &l->entries[parent];
@@ -159,7 +159,7 @@ static int load_directory(struct loading *l)
 	return -1;
 }
 
-/* A MOUNT: they are counted as they come, and nodes name them by that number. */
+/* A MOUNT. They are numbered in the order of the state, and nodes refer to them by number. */
 static int load_mount(struct loading *l)
 {
 	if (l->header.mode != MIGRATES_BY_HANDLES || l->mount_count == MOST_MOUNTS ||
@@ -172,7 +172,7 @@ static int load_mount(struct loading *l)
 
 /* ---- nodes */
 
-/* Whether a descriptor is of the file that a handle names, as the host makes the handle of it. */
+/* Returns whether the file of a descriptor has this handle. */
 static bool has_handle(int fd, const struct state_node *result)
 {
 	union handle_room room;
@@ -182,7 +182,7 @@ static bool has_handle(int fd, const struct state_node *result)
 	       !memcmp(room.handle.f_handle, result->handle, result->handle_size);
 }
 
-/* Whether a file was opened that was seen. The descriptor is closed. */
+/* Returns whether `fd` is the file with these attributes, and closes it. */
 static bool is_file(int fd, const struct statx *seen)
 {
 	struct statx there;
@@ -195,9 +195,9 @@ static bool is_file(int fd, const struct statx *seen)
 	return is_so;
 }
 
-/* Whether a file that was opened by its handle may be the client's: if it is in the folder, by a path that Linux knows or by
- * the place that the state has; or if files without a name may be opened, and it has none. By a handle any file of the file
- * system opens, so without this whoever sends a state could have one from outside. */
+/* Returns whether a file that was opened by its handle may be used: it is in the shared directory, by a path that
+ * Linux knows or by the place in the state; or it has no name, and such files are permitted. A handle can open any
+ * file of the file system, so without this check the sender of a state could get a file from outside. */
 static bool is_in_folder(struct loading *l, int fd, const struct state_node *result)
 {
 	struct statx seen;
@@ -213,7 +213,7 @@ static bool is_in_folder(struct loading *l, int fd, const struct state_node *res
 	       !seen.stx_nlink;
 }
 
-/* Opens a file by its handle. -1: errno says why. */
+/* Opens a file by its handle. Returns -1 with errno on error. */
 static int open_handle(struct loading *l, const struct state_node *result)
 {
 	const int mount = result->mount < l->mount_count ? l->mounts[result->mount] : -1;
@@ -237,7 +237,8 @@ static int open_handle(struct loading *l, const struct state_node *result)
 	return -1;
 }
 
-/* Opens a file by its name; if it has a handle, it must be that of this file. -1: errno says why, EXDEV that it is not. */
+/* Opens a file by its name. If the node has a handle, the file must have the same. Returns -1 with errno on error:
+ * EXDEV, if not. */
 static int open_place(struct loading *l, const struct state_node *result)
 {
 	int fd;
@@ -252,8 +253,9 @@ static int open_place(struct loading *l, const struct state_node *result)
 	return fd;
 }
 
-/* The folder, which must be the first entry, and no other. It is there, by what this server was started with. If files are
- * verified, its handle shows whether it is the other server's folder; by handles it needs not be. */
+/* The shared directory, which must be the first entry, and no other. It is not opened, because this server has its
+ * own. If files are verified, its handle shows whether it is the other server's directory; with file handles it
+ * may be a different one. */
 static int load_root(struct loading *l, const struct state_node *result)
 {
 	if (l->count || result->parent != NOWHERE)
@@ -318,9 +320,9 @@ static int load_node(struct loading *l)
 
 /* ---- open files */
 
-/* Opens the file of a node as it was open. -1: errno says why. Only a file or a directory is opened,
- * by its own descriptor, and with no right that this server does not give: not for writing if nothing
- * is changed, with no O_DIRECT unless it is allowed. */
+/* Opens the file of a node with the flags of the state. Returns -1 with errno on error. Only a file or a directory
+ * is opened, by its own descriptor, and with no access that this server does not permit: not for writing if it is
+ * read-only, and without O_DIRECT unless that is allowed. */
 static int open_as(struct loading *l, const struct node *node, int of, int flags)
 {
 	const struct passthrough_options *options = &l->all->options;

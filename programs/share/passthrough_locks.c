@@ -40,9 +40,9 @@
 #include <time.h>
 #include "passthrough_holders.h"
 
-/* How many threads may wait at once, and how many bytes of stack each has. KICKS and TRIES are pauses
- * of a millisecond: how long a worker kicks who waits, and how long a reply is tried for want of
- * memory. MOST_REACHED bounds the search for a deadlock. */
+/* MOST_WAITERS: how many threads may wait at once; STACK: the stack size of each. KICKS and TRIES are in
+ * milliseconds: how long a worker signals a waiter, and how long a reply is retried when out of memory.
+ * MOST_REACHED limits the search for a deadlock. */
 enum { MOST_WAITERS = 4096, STACK = 65536, KICKS = 50, TRIES = 10000, MOST_REACHED = 256 };
 
 /* Does nothing: without a handler the signal would end the process, and one that is ignored interrupts
@@ -62,7 +62,7 @@ struct locks *locks_new(struct nodes *nodes)
 	all->nodes = nodes;
 	pthread_mutex_init(&all->lock, NULL);
 	pthread_mutex_init(&all->replying, NULL);
-	/* (without SA_RESTART, so that a call that waits comes back with EINTR) */
+	/* (without SA_RESTART, so that a blocked system call fails with EINTR) */
 	sigaction(kick_signal(), &kicks, NULL);
 	return all;
 }
@@ -123,7 +123,7 @@ int get_lock(const struct call *call)
 
 /* ---- deadlocks */
 
-/* Whether a lock of a holder is in the way of a waiter of another owner. */
+/* Returns whether a lock of a holder conflicts with that of a waiter of another owner. */
 static bool is_in_the_way(const struct holder *h, const struct waiter *w)
 {
 	const nizwarf_lock lock = nizwarf_lock_of(&w->asked);
@@ -152,9 +152,9 @@ static struct waiter *reach(struct locks *all, uint64_t owner, struct waiter *la
 	return last;
 }
 
-/* Whether this waiter, which is in no list yet, would wait for what waits for its own owner: Linux has EDEADLK for that,
- * and looks for it, as is done here, by owners, up to a limit. The lock is held. What programs of the host or another
- * server's clients wait for is not known. */
+/* Returns whether this waiter, which is in no list yet, would wait for an owner that waits for its own: then Linux
+ * returns EDEADLK, and searches for it as here, by owners and up to a limit. The lock must be held. Waits of the
+ * host's programs, or of another server's clients, are not known. */
 static bool is_deadlock(struct locks *all, struct waiter *asked)
 {
 	struct waiter *last = asked;
@@ -194,7 +194,7 @@ static void link_waiter(struct waiter *w)
 	w->of->waiters = w;
 }
 
-/* Takes a waiter out of the list, under the lock: no one kicks it from then on. */
+/* Removes a waiter from the list, so that it gets no more signals. The lock must be held. */
 static void unlink_waiter(struct waiter *w)
 {
 	*w->at = w->next;
@@ -228,7 +228,7 @@ static void finish(struct waiter *w, int error)
 	if (w->at)
 		unlink_waiter(w);
 	pthread_mutex_unlock(&all->lock);
-	/* (before the reply: who closes the file after it then gives its locks up at once) */
+	/* (before the reply, so that closing the file after it releases the locks at once) */
 	if (w->holder)
 		holder_put(all, w->holder);
 	file_put(w->file);
@@ -239,8 +239,8 @@ static void finish(struct waiter *w, int error)
 	pthread_mutex_unlock(&all->lock);
 }
 
-/* Waits until the host grants the lock, and then takes it again in turn: 0, or an error. EAGAIN: another thread of the
- * client gave it up meanwhile, and it isn't free any more. */
+/* Waits until the host grants the lock, and then takes it again in turn. Returns 0 or an error: EAGAIN, if another
+ * thread of the client has released it meanwhile and it is not free. */
 static int wait_once(const struct waiter *w)
 {
 	const nizwarf_lock lock = nizwarf_lock_of(&w->asked);
@@ -255,9 +255,8 @@ static int wait_once(const struct waiter *w)
 	return error ? error : try_range(w->of, w->holder, &lock);
 }
 
-/* The thread of a waiter. A signal that comes between the look at `stop` and the call of the host is
- * missed: it is sent again. A lock that was granted is reported as granted, even if the waiting was to end
- * meanwhile. */
+/* The thread of a waiter. A signal between the check of `stop` and the system call is missed, and is sent again. A
+ * lock that was granted is reported as granted, even if the wait was to end meanwhile. */
 static void *wait_for_lock(void *given)
 {
 	struct waiter *w = given;
@@ -269,7 +268,7 @@ static void *wait_for_lock(void *given)
 	return NULL;
 }
 
-/* Starts the thread of a waiter. False: it can't be. The lock is held. */
+/* Starts the thread of a waiter. Returns false on error. The lock must be held. */
 static bool start_thread(struct waiter *w)
 {
 	pthread_attr_t attributes;
@@ -283,7 +282,7 @@ static bool start_thread(struct waiter *w)
 	return is_started;
 }
 
-/* Whether a request may wait: 0, with its transport's part in `later`, or an error. The lock is held. */
+/* Checks whether a request may wait, and sets `later`. Returns 0 or an error. The lock must be held. */
 static int may_wait(const struct call *call, struct waiter *w)
 {
 	struct locks *all = w->of;
@@ -292,7 +291,7 @@ static int may_wait(const struct call *call, struct waiter *w)
 		return EINTR;
 	if (w->holder && is_deadlock(all, w))
 		return EDEADLK;
-	/* (as many wait as may, or nothing may while a machine pauses) */
+	/* (the limit is reached, or the virtual machine is pausing) */
 	w->later = all->waiting < MOST_WAITERS ? transport_keep() : NULL;
 	return w->later ? 0 : ENOLCK;
 }
@@ -320,7 +319,7 @@ static int start_waiter(const struct call *call, struct holder *h)
 		all->waiting++;
 		is_started = start_thread(w);
 	}
-	/* (it can't end yet, as it needs the lock for that) */
+	/* (the thread cannot end yet, because it needs the lock for that) */
 	if (is_started)
 		link_waiter(w);
 	pthread_mutex_unlock(&all->lock);
@@ -356,8 +355,8 @@ static void kick_each(struct locks *all, unsigned client, const uint64_t *unique
 	pthread_mutex_unlock(&all->lock);
 }
 
-/* An INTERRUPT, whose worker kicks for some 50 milliseconds at most: if the host does not come back by
- * then, the waiter has the error for when it does. One that came before its SETLKW, by another worker,
+/* INTERRUPT. The worker signals the waiter for at most about 50 milliseconds; if the host has not returned by
+ * then, the waiter replies with the error once it does. An INTERRUPT that another worker handles before its SETLKW
  * is remembered. */
 void locks_interrupt(struct locks *all, unsigned client, uint64_t unique)
 {
@@ -403,7 +402,7 @@ static int set_range(const struct call *call, const nizwarf_lock *lock)
 		h->handle = call->asked->handle;
 		pthread_mutex_unlock(&all->lock);
 	}
-	/* (to unlock all takes no memory, and so can't fail for want of it) */
+	/* (unlocking the whole file needs no memory, and so cannot fail) */
 	error = is_all || holder_reserve(all, h, lock) ? try_range(all, h, lock) : ENOLCK;
 	if (error == EAGAIN && call->asked->opcode == NIZWARF_SETLKW)
 		error = start_waiter(call, h);
@@ -440,7 +439,7 @@ static struct holder *find_locked(const struct call *call, bool by_handle)
 	return h;
 }
 
-/* Gives up all locks of such holders. */
+/* Releases all locks of such holders. */
 static void drop_each(const struct call *call, bool by_handle)
 {
 	struct locks *all = call->all->locks;
@@ -505,7 +504,7 @@ static struct holder *take_all(struct locks *all, unsigned client)
 
 	pthread_mutex_lock(&all->lock);
 	is_late = !is_client(all->nodes, client);
-	/* (who comes next has requests of the same numbers) */
+	/* (the next client uses the same request numbers) */
 	if (!is_late)
 		memset(&all->early, 0, sizeof(all->early));
 	for (unsigned i = 0; i < CHAINS && !is_late; i++)
@@ -534,8 +533,8 @@ bool locks_are_held(struct locks *all)
 	return are_held || files_have_flock(all->nodes);
 }
 
-/* What waits still after a second, since the host does not come back, keeps its holder, and puts it
- * when it ends. */
+/* A thread that still waits after a second, because the host does not return, keeps its holder, and puts it when
+ * it ends. */
 struct holder *locks_take_all(struct locks *all, unsigned client)
 {
 	end_waiting(all, client);

@@ -59,8 +59,8 @@ struct host_mount *mount_take(struct nodes *all, const struct found *found, cons
 	return mount;
 }
 
-/* One user less. The last one takes the lock before it goes to 0, since mount_take() may find the
- * mount in the list up to then; the others need none. */
+/* Drops a reference. The last one takes the lock before the count becomes 0, because mount_take() may find the
+ * mount in the list until then; the others need no lock. */
 void mount_put(struct host_mount *mount)
 {
 	unsigned users = atomic_load(&mount->users);
@@ -102,9 +102,9 @@ int open_by_handle(const struct host_mount *mount, struct file_handle *handle)
 	return open_by_handle_at(mount->fd, handle, O_PATH | O_NOFOLLOW | O_CLOEXEC);
 }
 
-/* Opens what handles of a mount are opened by: the file if that is a directory, or else the one that
- * it was found in, so that no file is kept which its owner removes. -1: neither can be. (No descriptor
- * made with O_PATH will do.) */
+/* Opens the descriptor by which handles of a mount are opened: the file if that is a directory, or else its
+ * directory, because an open file would exist after its owner has removed it. Returns -1 if neither can be opened.
+ * (A descriptor made with O_PATH does not suffice.) */
 static int open_mount(const struct host_mount *mount, const struct found *found, int fd,
 		      const struct statx *seen)
 {
@@ -133,9 +133,9 @@ void mount_let_go(struct host_mount *mount)
 		fd_let_go(mount->of, fd);
 }
 
-/* Has a mount opened, with one handle more: false, it can't be. It is opened without the lock, since its file
- * system may be one that does not answer: then only who needs this mount waits. Of two workers that open it
- * the first one's stays. */
+/* Opens a mount, and counts one more handle. Returns false on error. It is opened without the lock, because its
+ * file system may not respond: then only users of this mount are blocked. If two workers open it, the first
+ * descriptor is kept. */
 static bool mount_open(struct host_mount *mount, const struct found *found, int fd, const struct statx *seen)
 {
 	int own = -1;

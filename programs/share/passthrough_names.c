@@ -36,7 +36,7 @@ static int unmake(int directory, const char *name, const struct statx *made, int
 	return error;
 }
 
-/* (without its attributes the name remains, and the client sees it later) */
+/* (if the name cannot be checked it remains, and the client sees it later) */
 int unmake_of(int directory, const char *name, int fd, int error)
 {
 	struct statx made;

@@ -88,7 +88,7 @@ static struct counted *get(struct table *table, uint64_t number)
 	return thing;
 }
 
-/* Gives a thing a number, under the lock. False: there is no memory. */
+/* Assigns a number to an object. Returns false if out of memory. The lock must be held. */
 static bool add(struct table *table, struct counted *thing)
 {
 	/* The lower half of a number is its slot, and the upper half the number of earlier uses. So a freed object
@@ -131,7 +131,7 @@ static void free_slot(struct table *table, uint32_t at, uint64_t uses)
 	table->first_free = at;
 }
 
-/* Takes the number from a thing, under the lock: it is not given to another one. */
+/* Removes an object from the table. The lock must be held. Its number is not reused. */
 static void take(struct table *table, const struct counted *thing)
 {
 	free_slot(table, (uint32_t)thing->number, (thing->number >> 32) + 1);
@@ -195,7 +195,7 @@ static void note_uses(struct table *table, uint64_t number)
 	table->most_uses = uses > table->most_uses ? uses : table->most_uses;
 }
 
-/* Gives a thing its number, under the lock: 0, or an error. */
+/* Adds an object with its number. Returns 0 or an error. The lock must be held. */
 static int place_in(struct table *table, struct counted *thing, uint64_t number)
 {
 	const uint32_t at = (uint32_t)number;
@@ -386,7 +386,7 @@ void node_put(struct grip *grip)
 	grip->own = -1;
 }
 
-/* The chain of a file. Inodes mostly come one after another: the upper half of a product spreads them. */
+/* Returns the chain of a file. Inode numbers are often consecutive: the upper half of a product spreads them. */
 static struct node **chain_of(const struct nodes *all, uint64_t device, uint64_t inode)
 {
 	const uint64_t mixed = (inode + device * 31) * UINT64_C(0x9e3779b97f4a7c15);
@@ -394,21 +394,22 @@ static struct node **chain_of(const struct nodes *all, uint64_t device, uint64_t
 	return &all->chains[(mixed >> 32) % all->chain_count];
 }
 
-/* Whether two handles are of one file: they have no other sign than their bytes. */
+/* Returns whether two handles are equal, which only their bytes show. */
 static bool same_handle(const struct file_handle *a, const struct file_handle *b)
 {
 	return a && b && a->handle_type == b->handle_type && a->handle_bytes == b->handle_bytes &&
 	       !memcmp(a->f_handle, b->f_handle, a->handle_bytes);
 }
 
-/* Whether a node has these numbers, its mount among them. That is not yet the same file: known(). */
+/* Returns whether a node has these numbers, including the mount. That does not prove that it is the same file:
+ * known(). */
 static bool is_of(const struct node *node, const struct statx *seen)
 {
 	return node->inode == seen->stx_ino && !is_across(node, seen);
 }
 
-/* The node of a file under the lock, or NULL. One that is held by a handle is that of the file if
- * the handle is: numbers of inodes come again, while a descriptor keeps its own from that. */
+/* Returns the node of a file, or NULL. The lock must be held. A node with a handle is compared by that, because
+ * inode numbers are reused, unless a descriptor keeps the file. */
 static struct node *known(const struct nodes *all, const struct statx *seen, const struct file_handle *handle)
 {
 	struct node *node = *chain_of(all, device_of(seen), seen->stx_ino);
@@ -419,7 +420,7 @@ static struct node *known(const struct nodes *all, const struct statx *seen, con
 	return node;
 }
 
-/* Whether one of these numbers is held by a handle, under the lock; and without it. */
+/* Returns whether a node with one of these numbers has a handle; with the lock held, and without. */
 static bool is_by_handle(const struct nodes *all, const struct statx *seen)
 {
 	const struct node *node = *chain_of(all, device_of(seen), seen->stx_ino);
@@ -442,22 +443,22 @@ static bool some_handle(struct nodes *all, const struct statx *seen)
 	return is_some;
 }
 
-/* Of a name in a directory that is read only device and inode are known, and not the mount. */
+/* For an entry that was read from a directory only device and inode are known, and not the mount. */
 bool node_may_be_known(struct nodes *all, const struct node *directory, uint64_t inode)
 {
 	struct node *node;
 
 	pthread_rwlock_rdlock(&all->nodes.lock);
 	node = *chain_of(all, directory->on->device, inode);
-	/* (it is of this device, or else the name is where something is mounted) */
+	/* (an entry on another device is a mount point, which is not found) */
 	while (node && (node->inode != inode || node->on->device != directory->on->device))
 		node = node->next;
 	pthread_rwlock_unlock(&all->nodes.lock);
 	return node != NULL;
 }
 
-/* Whether a file is about to lose its last name with this one. (Two workers that remove two names of one file at once may
- * both see two.) */
+/* Returns whether a file is about to lose its last name. (Two workers that remove two names of one file at once
+ * may both see two.) */
 static bool is_last_name(const struct statx *seen)
 {
 	return S_ISDIR(seen->stx_mode) || seen->stx_nlink <= 1;
@@ -534,7 +535,7 @@ int node_look_up(struct nodes *all, unsigned client, struct node *node)
 {
 	bool is_there;
 
-	/* (no node goes meanwhile) */
+	/* (so that no node is removed meanwhile) */
 	pthread_rwlock_rdlock(&all->nodes.lock);
 	is_there = is_client(all, client) && thing_of(&all->nodes, node->counted.number) == &node->counted;
 	if (is_there)
@@ -581,7 +582,7 @@ static void enchain(struct nodes *all, struct node *node)
 	*chain = node;
 }
 
-/* Adds a lookup of a known node, under the lock: its number; 0: it isn't known. */
+/* Increments the lookup count of a known node and returns its number; or 0. The lock must be held. */
 static uint64_t add_to_known(const struct nodes *all, unsigned client, const struct statx *seen,
 			     const struct file_handle *handle)
 {
@@ -595,7 +596,7 @@ static uint64_t add_to_known(const struct nodes *all, unsigned client, const str
 	return node->counted.number;
 }
 
-/* The same, with the lock: which others may have meanwhile that only look. (No node goes meanwhile.) */
+/* The same, with the lock for reading, which prevents that the node is removed. */
 static uint64_t find_known(struct nodes *all, unsigned client, const struct statx *seen,
 			   const struct file_handle *handle)
 {
@@ -632,7 +633,7 @@ uint64_t node_find(struct nodes *all, unsigned client, const struct statx *seen)
 	return find_known(all, client, seen, NULL);
 }
 
-/* The same of a file that is open, and known by a handle meanwhile; or `*made`, if that isn't NULL. */
+/* The same for an open file that became known by a handle meanwhile; or adds `*made`, if that is not NULL. */
 static uint64_t add_opened(struct nodes *all, unsigned client, int fd, const struct statx *seen,
 			   struct node **made)
 {
@@ -758,7 +759,7 @@ int open_by_name(struct nodes *all, struct node *node, int flags)
 	return -1;
 }
 
-/* The handle of a file, if that is wanted and there is one; or NULL. */
+/* Returns the handle of a file, if handles are enabled and it has one; or NULL. */
 static struct file_handle *handle_wanted(struct nodes *all, int fd, const struct statx *seen,
 					 union handle_room *room)
 {
@@ -843,7 +844,7 @@ int node_restore(struct nodes *all, int fd, const struct statx *seen, uint64_t n
 	return error;
 }
 
-/* Takes a node from its chain and its number, under the lock. */
+/* Removes a node from its chain and the table. The lock must be held. */
 static void detach(struct nodes *all, struct node *node)
 {
 	struct node **at = chain_of(all, node->on->device, node->inode);
@@ -873,18 +874,19 @@ void node_forget(struct nodes *all, unsigned client, uint64_t number, uint64_t c
 	free_node(node);
 }
 
-/* Gives the host memory back that is free. The C library keeps small pieces, also where they are many; and those at the
- * end of a thread's heap go with a large one alone. */
+/* Returns free memory to the system. The C library keeps small pieces, even many of them; and those at the end of
+ * a thread's heap are returned only with a large one. */
 static void trim_heap(void)
 {
-	/* (volatile, so that the compiler doesn't leave both calls out) */
+	/* (volatile, so that the compiler does not remove both calls) */
 	void *volatile large = malloc(LARGE);
 
 	free(large);
 	malloc_trim(0);
 }
 
-/* Takes all nodes but the root out of the table: the first one of a list, and how many; none, if the client has gone. */
+/* Removes all nodes except the root from the table, and returns them as a list with their number; or NULL, if the
+ * client has disconnected. */
 static struct node *take_nodes(struct nodes *all, unsigned client, uint32_t *count)
 {
 	struct node *gone = NULL;
@@ -948,7 +950,7 @@ void files_let_go(struct gone *gone)
 {
 	struct open_file *next;
 
-	/* (who comes next must not meet locks of files that are closed late, or are still used by a call) */
+	/* (the next client must not meet locks of files that are closed late or are still used by a call) */
 	for (struct open_file *file = gone->file; file; file = file->next)
 		if (atomic_load(&file->has_flock))
 			flock(file->counted.fd, LOCK_UN);
@@ -1180,7 +1182,7 @@ struct open_file *file_with_flock(struct nodes *all, const struct open_file *oth
 
 void file_put(struct open_file *file)
 {
-	/* (RELEASE takes it out of the table; a READ that is under way keeps it up to its end) */
+	/* (RELEASE removes it from the table; a READ in flight keeps it until it returns) */
 	if (!file || atomic_fetch_sub(&file->counted.users, 1) > 1)
 		return;
 	if (file->buffer)

@@ -19,7 +19,7 @@ struct prefix {
 	uint32_t next;
 };
 
-/* (most of it is never touched, and takes no memory then) */
+/* (pages that are never used take no memory) */
 struct numbers {
 	pthread_rwlock_t lock;
 	uint64_t own;
@@ -50,7 +50,7 @@ struct numbers *numbers_new(uint64_t device)
 		return NULL;
 	pthread_rwlock_init(&all->lock, NULL);
 	all->own = device;
-	/* Of the folder's own file system. */
+	/* For the directory's own file system. */
 	all->is_taken[0] = true;
 	return all;
 }
@@ -80,7 +80,7 @@ static int add(struct numbers *all, uint64_t device, uint16_t high)
 	/* (the uppermost one makes a number negative to programs that take it for a signed one) */
 	uint16_t result = device == all->own ? high : (uint16_t)(mix_both(device, high) >> LOW_BITS & 0x7fff);
 
-	/* One is the folder's own. */
+	/* One of them belongs to the directory's own file system. */
 	if (all->count >= PREFIXES - 1)
 		return -1;
 	/* (it ends: fewer than PREFIXES are taken) */

@@ -53,7 +53,7 @@ struct file_id id_of(const struct statx *seen)
 	return (struct file_id){ seen->stx_ino, device_of(seen), mount_of(seen) };
 }
 
-/* (The number of an inode comes again once its file is gone; that of a file which a descriptor holds does not.) */
+/* (An inode number is reused once its file is gone, but not while a descriptor keeps the file.) */
 bool is_id(const struct file_id *one, const struct file_id *other)
 {
 	return one->inode == other->inode && one->device == other->device && one->mount == other->mount;

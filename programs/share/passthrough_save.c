@@ -28,7 +28,8 @@ enum { MOST_MOUNTS = 1024, FIRST_PIECES = 256 };
 /* The limit of names in a search: NAMES, and NAMES_OF_NODE for each node. */
 enum { NAMES = 1000000, NAMES_OF_NODE = 64 };
 
-/* A directory that the client does not know, and its entry. In the table a free place has the entry of the folder. */
+/* A directory that the client does not know, and its entry. A free place of the table has the entry of the shared
+ * directory. */
 struct ancestor {
 	struct file_id id;
 	uint32_t entry;
@@ -59,7 +60,8 @@ struct saving {
 	size_t sought_count, sought_size, lost;
 	bool has_failed;
 	char path[PATH_MAX];
-	/* The path whose directory got the entry `last_entry` last. Nodes of one directory often come one after another. */
+	/* The path of the directory with the entry `last_entry`, because nodes of one directory often follow each
+	 * other. */
 	char last[PATH_MAX];
 	size_t last_len;
 	uint32_t last_entry;
@@ -82,8 +84,8 @@ static struct place place_in(uint32_t parent, const char *name)
 
 /* ---- records */
 
-/* Puts bytes into the state, and into the sum. 0, or -1 if it failed and printed why. So it is with all functions here that
- * return an int and say nothing else. */
+/* Writes bytes to the state, and adds them to the sum. On error it prints a message and returns -1, as do all
+ * functions here that return an int, unless they say otherwise. */
 static int put(struct saving *s, const void *bytes, size_t len)
 {
 	s->end.sum = state_sum(s->end.sum, bytes, len);
@@ -104,7 +106,7 @@ static bool is_by_handles(const struct saving *s)
 	return s->all->options.migration_mode == MIGRATES_BY_HANDLES;
 }
 
-/* Whether nodes go with their handles. */
+/* Returns whether nodes are saved with their handles. */
 static bool has_handles(const struct saving *s)
 {
 	return is_by_handles(s) || s->all->options.verifies;
@@ -315,8 +317,9 @@ static int enter_part(struct saving *s, size_t len, uint32_t parent, uint32_t *e
 	return failed;
 }
 
-/* The entry of the directory of the first `len` bytes of `s->path`. Up to the first one that has an entry, and down again:
- * each directory gets its entry once, so all of it takes as long as there are directories. */
+/* Returns the entry of the directory of the first `len` bytes of `s->path`. It goes up to the first directory with
+ * an entry, and down again. Each directory gets its entry once, so the total time is linear in the number of
+ * directories. */
 static int enter_path(struct saving *s, size_t len, uint32_t *entry)
 {
 	size_t at = len;
@@ -463,7 +466,7 @@ static int save_node(struct saving *s, uint64_t number)
 	return failed;
 }
 
-/* Calls for each node, up to a first failure. */
+/* Calls a function for each node, until it fails. */
 static int for_each_node(struct saving *s, int (*call)(struct saving *s, uint64_t number))
 {
 	uint32_t place = 0;
@@ -477,7 +480,7 @@ static int for_each_node(struct saving *s, int (*call)(struct saving *s, uint64_
 
 /* ---- the search */
 
-/* (it may take long: it ends if the front end goes, a signal comes, or the state has failed) */
+/* (a search may take long: it ends if the front end disconnects, a signal arrives, or the saving has failed) */
 static bool goes_on(void *user)
 {
 	const struct saving *s = user;
@@ -681,7 +684,7 @@ static int save_all(struct saving *s)
 		return state_refuse("the client holds locks of the host, which cannot be migrated");
 	if (paths_begin(&s->paths, &s->all->nodes))
 		return state_refuse("cannot find the path of the shared directory");
-	/* (the folder is the first entry) */
+	/* (the shared directory is the first entry) */
 	if (save_header(s) || save_mounts(s) || save_node(s, ROOT_NODE) || for_each_node(s, save_node) ||
 	    save_sought(s) || save_files(s))
 		return -1;

@@ -16,8 +16,9 @@
 #include "passthrough_call.h"
 #include "passthrough_search.h"
 
-/* How many bytes are read of a directory at once; how deep the search goes; how many bytes a name has with the 0 after it,
- * and the names of one level; and how many bytes there are besides one name for each level. */
+/* ENTRIES: how many bytes of a directory are read at once; MOST_LEVELS: how deep the search goes; NAME_BYTES: the
+ * size of a name with its 0; BATCH: the size of the names of one level; SPARE: the space for names in
+ * addition to one name for each level. */
 enum { ENTRIES = 32768, MOST_LEVELS = 16384, NAME_BYTES = 256, BATCH = 16384, SPARE = 1 << 20 };
 /* How many names are looked at of a directory that is read by itself, so that a long one leaves some for the others. */
 enum { NAMES_OF_ONE = 65536 };
@@ -26,7 +27,7 @@ enum { ALL_NAMES = MOST_LEVELS * NAME_BYTES + SPARE };
 
 struct level {
 	struct file_id id;
-	/* Where reading the directory goes on; and whether its end was met. */
+	/* Where reading the directory continues, and whether its end was reached. */
 	off_t resume;
 	bool is_read;
 	/* Its entry of the state; NOWHERE: it has none yet. */
@@ -76,7 +77,7 @@ struct search *search_begin(const struct paths *paths, struct sought *sought, si
 	s->mask = chains - 1;
 	s->names_left = most;
 	s->chains = calloc(chains, sizeof(struct sought *));
-	/* (Linux gives the pages of these two as they are used) */
+	/* (Linux allocates the pages of these two as they are used) */
 	s->levels = malloc(MOST_LEVELS * sizeof(*s->levels));
 	s->names = malloc(ALL_NAMES);
 	if (!s->chains || !s->levels || !s->names) {
@@ -119,7 +120,7 @@ static uint32_t entry_here(struct search *s)
 
 	if (at < 0)
 		return s->entry;
-	/* (the folder has one) */
+	/* (that of the shared directory has one) */
 	while (s->levels[at].entry == NOWHERE)
 		at--;
 	for (; at < s->depth; at++) {
@@ -179,7 +180,7 @@ static bool look_at_name(struct search *s, int fd, const struct dirent64 *entry)
 	return S_ISDIR(seen.stx_mode);
 }
 
-/* Whether one more name may be looked at. */
+/* Returns whether one more name may be read. */
 static bool counts_name(struct search *s)
 {
 	if (!s->names_left)
@@ -189,7 +190,7 @@ static bool counts_name(struct search *s)
 	return !search_is_over(s);
 }
 
-/* Whether the search goes on. It is looked at each time that something was read. */
+/* Returns whether the search continues. It is checked after each read. */
 static bool goes_on(struct search *s)
 {
 	if (!s->seeker->goes_on(s->seeker->user))
@@ -318,13 +319,15 @@ static int go_back(struct search *s, int below)
 	int fd;
 
 	s->depth--;
-	/* (If the one below was moved out of the folder, this opens a directory outside of it: it is closed again.) */
+	/* (If the lower directory was moved out of the shared one, this opens a directory outside, which is closed
+	 * again.) */
 	fd = if_level(s, openat(below, "..", O_RDONLY | O_DIRECTORY | O_CLOEXEC));
 	close(below);
 	return fd < 0 ? open_by_names(s) : fd;
 }
 
-/* Visits the next directory of the level: its descriptor if it has directories to be visited, or else that of the level. */
+/* Visits the next directory of the level. Returns its descriptor if it has directories to visit, or else that of
+ * the level. */
 static int visit(struct search *s, int fd)
 {
 	struct level *level = &s->levels[s->depth];

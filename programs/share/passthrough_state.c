@@ -129,14 +129,14 @@ void state_decode_record(const unsigned char bytes[STATE_RECORD], uint32_t *kind
 	*size = (uint32_t)get_number(&from, 4);
 }
 
-/* Whether this is the name of something in a directory. */
+/* Returns whether this can be the name of a directory entry. */
 static bool is_name(const char *name, size_t len)
 {
 	return len && len <= STATE_NAME_MAX && !memchr(name, 0, len) && !memchr(name, '/', len) &&
 	       !(len <= 2 && !memcmp(name, "..", len));
 }
 
-/* Whether a file has a parent and a name, or neither. */
+/* Returns whether a file has both a parent and a name, or neither. */
 static bool is_place(uint32_t parent, const char *name, size_t len)
 {
 	return parent == NOWHERE ? !len : is_name(name, len);

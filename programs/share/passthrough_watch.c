@@ -37,8 +37,8 @@
  * a read; MOST_ALIKE: how many nodes of one file there may be; CHANGED: how many changed files are collected, of
  * which half are used so that a free place is near; EACH: how many nodes of a chain are reported under one lock. */
 enum { PARTS = 64, FIRST_CHAINS = 64, EVENTS = 65536, MOST_ALIKE = 64, CHANGED = 4096, EACH = 256 };
-/* In milliseconds: how long events gather; how long it rests once some were lost; how often it looks whether there is a
- * client; and how long names hold where they can't be dropped all at once. */
+/* In milliseconds: how long events are collected; how long the thread rests after events were lost; how often it
+ * checks whether there is a client; and how long names are cached if they cannot be invalidated all at once. */
 enum { GATHER = 1, REST = 100, LOOK = 20, MINUTE = 60000 };
 /* How many times events are read that are not looked at, since all is old. */
 enum { MOST_DRAINED = 64 };
@@ -83,7 +83,7 @@ struct watch {
 	pid_t own;
 	transport_notices *notices;
 	bool knows_none, is_started;
-	/* Names can be dropped all at once: 1, or -1: they can't be, or 0: it isn't known yet. */
+	/* Whether all names can be invalidated at once: 1, or -1 if not, or 0 if it is not known yet. */
 	atomic_int has_epoch;
 	atomic_bool said;
 	pthread_t thread;
@@ -115,7 +115,7 @@ static struct watched **chain_of(const struct part *part, uint64_t hash)
 	return &part->chains[hash / PARTS % part->size];
 }
 
-/* Whether a handle is that of a file that is watched. */
+/* Returns whether a handle is that of a watched file. */
 static bool is_of(const struct watched *watched, uint64_t hash, const struct file_handle *handle)
 {
 	return watched->hash == hash && watched->type == (uint32_t)handle->handle_type &&
@@ -199,15 +199,15 @@ static bool grow_part(struct part *part)
 	return true;
 }
 
-/* Adds or removes the mark of a file. It is named by its descriptor in /proc, as fanotify takes none
- * with O_PATH. */
+/* Adds or removes the mark of a file. It uses the path in /proc, because fanotify accepts no descriptor made with
+ * O_PATH. */
 static int mark(const struct watch *all, unsigned how, int fd, bool is_directory)
 {
 	return fanotify_mark(all->group, how, is_directory ? OF_DIRECTORY : OF_FILE, all->proc,
 			     name_fd(fd).bytes);
 }
 
-/* What can't be watched is said once. */
+/* Prints once that a file cannot be watched. */
 static void say_unwatched(struct watch *all, int error)
 {
 	if (!atomic_exchange(&all->said, true))
@@ -251,13 +251,13 @@ struct watched *watch_add(struct watch *all, int fd, bool is_directory)
 	return NULL;
 }
 
-/* (up to then the thread leaves it out: the client can't remember anything of it) */
+/* (until then the thread ignores it, because the client cannot have cached anything of it) */
 void watch_name(struct watched *watched, uint64_t node)
 {
 	atomic_store(&watched->node, node);
 }
 
-/* Whether another one is of the same file, under the lock. */
+/* Returns whether another node has the same file. The lock must be held. */
 static bool has_other(const struct part *part, const struct watched *watched)
 {
 	const struct watched *each = *chain_of(part, watched->hash);
@@ -437,8 +437,8 @@ static void take_record(struct watch *all, uint64_t mask, bool is_own, const str
 	}
 }
 
-/* Takes an event: its records are of a file, or of a directory with a name in it; or of both, where
- * the file is watched. With FAN_Q_OVERFLOW the host has dropped some, and says no more of them. */
+/* Handles an event. Its records are of a file, or of a directory with a name in it, or of both if the file is
+ * watched. With FAN_Q_OVERFLOW the host has lost events. */
 static void take_event(struct watch *all, const struct fanotify_event_metadata *event, const char *at,
 		       const char *end)
 {
@@ -467,7 +467,7 @@ static void take_event(struct watch *all, const struct fanotify_event_metadata *
 	}
 }
 
-/* Takes the events that are there. Whether there were some. */
+/* Handles the pending events. Returns whether there were any. */
 static bool take_events(struct watch *all)
 {
 	const ssize_t got = read(all->group, all->events, sizeof(all->events));
@@ -502,9 +502,9 @@ static void begin_anew(struct watch *all)
 	let_pass(REST);
 }
 
-/* The thread, from watch_start() up to watch_free(). While it isn't known whether Linux has INC_EPOCH
- * it looks every 20 milliseconds, as a notice can be sent once INIT was answered; then it sleeps until
- * something happens. */
+/* The thread, from watch_start() to watch_free(). Until it is known whether Linux supports INC_EPOCH it checks
+ * every 20 milliseconds, because a notification can be sent only after INIT was replied to; then it sleeps until
+ * there are events. */
 static void *run(void *given)
 {
 	struct watch *all = given;

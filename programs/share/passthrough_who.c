@@ -83,7 +83,7 @@ int become(const struct call *call)
 	/* (-1 means to setresuid(2) that the id stays, which is root's) */
 	if (who.uid == UINT32_MAX || who.gid == UINT32_MAX)
 		return EINVAL;
-	/* (by raw calls, which are of this thread alone) */
+	/* (by raw system calls, which change only this thread) */
 	if ((who.has_group && !w->keeps_groups && syscall(SYS_setgroups, 1, &who.group)) ||
 	    syscall(SYS_setresgid, -1, who.gid ? who.gid : w->gid, -1) ||
 	    syscall(SYS_setresuid, -1, who.uid, -1))
@@ -118,19 +118,18 @@ bool sets_nothing(const nizwarf_call *asked)
 		 (FATTR_MODE | FATTR_UID | FATTR_GID | FATTR_SIZE | FATTR_ATIME | FATTR_MTIME));
 }
 
-/* Whether the client takes set-user-ID and set-group-ID bits away itself where it doesn't say that the server must: it did
- * not agree on HANDLE_KILLPRIV_V2. It does so by SETATTR, before it writes or calls truncate(2). */
+/* Returns whether the client clears set-ID bits itself unless a request says that the server must: it has not
+ * negotiated HANDLE_KILLPRIV_V2. It does so by SETATTR, before it writes or calls truncate(2). */
 static bool takes_bits_itself(const struct call *call)
 {
 	return !(atomic_load(&call->all->agreed) & FUSE_HANDLE_KILLPRIV_V2);
 }
 
-/* Whether a request without a flag for it must take bits away. Root may keep them; which capabilities another user has is
- * not known. Since Linux 6.12 such a request does not name its user, whose id is UINT32_MAX then.
- *
- * A client leaves the bits of a file that OPEN truncates, also if it takes them away itself otherwise. For FALLOCATE and
- * COPY_FILE_RANGE it has sent a SETATTR before, since Linux 6.0 and so if it names no user, either of the new mode or,
- * where the server takes the bits away, of nothing. */
+/* Returns whether a request without a flag for it must clear set-ID bits. Root may keep them; the capabilities of
+ * other users are not known. Since Linux 6.12 such a request does not contain its user, whose id is then
+ * UINT32_MAX. A client leaves the bits of a file that OPEN truncates, even if it clears them itself otherwise.
+ * Before FALLOCATE and COPY_FILE_RANGE it has sent a SETATTR (since Linux 6.0, so always if there is no user),
+ * either with the new mode or, if the server clears the bits, with nothing. */
 static bool kills_untold(const struct call *call)
 {
 	const nizwarf_call *asked = call->asked;
@@ -147,7 +146,7 @@ static bool kills_untold(const struct call *call)
 	}
 }
 
-/* Whether the host is to take set-user-ID and set-group-ID bits away, as it does for who lacks CAP_FSETID. */
+/* Returns whether the host must clear set-ID bits, as for a process that lacks CAP_FSETID. */
 static bool kills(const struct call *call)
 {
 	const nizwarf_call *asked = call->asked;
@@ -201,7 +200,7 @@ static int limit(uint64_t *left, const struct passthrough_options *options)
 	if (syscall(SYS_capget, &header, had))
 		return -1;
 	*left = mask & (had[0].permitted | (uint64_t)had[1].permitted << 32);
-	/* (what --modcaps adds was asked for, and is not left out without a word) */
+	/* (a capability that --modcaps adds must not be left out silently) */
 	if (options->more_capabilities & mask & ~*left) {
 		errno = EPERM;
 		return -1;

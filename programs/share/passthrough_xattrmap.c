@@ -58,7 +58,7 @@ static const char *take(char **rest, char sign)
 	return from;
 }
 
-/* Which of the words, which end with NULL, one is; or -1. */
+/* Returns the index of a word in a list that ends with NULL, or -1. */
 static int one_of(const char *word, const char *const *known)
 {
 	for (int i = 0; known[i]; i++)
@@ -110,8 +110,8 @@ static size_t expand(struct rule *at)
 	return count;
 }
 
-/* Whether some rule holds, whatever the name is, both for a client's and for one of the host: one with
- * an empty key, and one with an empty PREPEND. */
+/* Returns whether some rule applies to every name, both of a client and of the host: one with an empty key, and
+ * one with an empty PREPEND. */
 static bool is_whole(const struct xattr_map *map)
 {
 	unsigned scopes = 0;
@@ -178,7 +178,7 @@ const struct xattr_map *xattr_map_read(const char *text, const char **why, unsig
 	return NULL;
 }
 
-/* A name that gets longer than the host takes is refused, and not cut: ERANGE. */
+/* A name that becomes too long for the host is refused with ERANGE, and not truncated. */
 int xattr_map_to_host(const struct xattr_map *map, const char *name, struct xattr_name *host)
 {
 	const struct rule *rule = map->rules;
@@ -195,7 +195,7 @@ int xattr_map_to_host(const struct xattr_map *map, const char *name, struct xatt
 		return EOPNOTSUPP;
 	if (rule->type == PREFIX)
 		prepend = rule->prepend;
-	/* (as Linux answers of a longer one) */
+	/* (Linux returns the same for a longer name) */
 	len = strlen(prepend);
 	if (len + size > XATTR_NAME_MAX)
 		return ERANGE;
