@@ -1,24 +1,22 @@
-/* Mounts the file system of the library on a folder, over /dev/fuse, and serves it until it is
- * unmounted. It wants root, who may mount, and serves root alone, or all with allow_other.
+/* nizwarf-mount: mounts the file system of the library on a directory, over /dev/fuse, and serves it until it is
+ * unmounted. It requires root, and only root can use the file system, or everyone with allow_other.
  *
  * Usage: nizwarf-mount [-o OPTIONS] [--trace[=FILE]] DIRECTORY
  *
- * --help lists the options. SIGINT, SIGTERM and SIGHUP unmount. Where the folder is in use then, it goes
- * when the last user does, or at a second signal, or after two seconds if a request still waits. The server
- * has one caller at a time, so two workers are enough; but over io_uring there is one for each processor,
- * since what they do beside the server takes longer.
+ * --help lists the options. SIGINT, SIGTERM and SIGHUP unmount. If the directory is in use then, it is unmounted
+ * when its last user closes it, or at a second signal, or after two seconds if a request still waits. The server
+ * has one caller at a time, so two workers are enough; but over io_uring there is one for each processor, because
+ * their other work takes longer.
  *
- * What is here: the words and options, a server under a lock, and its three ways to be asked: `serve` asks
- * it, which a trace calls; `serve_traced` does that under the lock; and `serve_apart` copies the reply
- * after it. The transport is fuse_device.c, with its threads: main() calls it, and each worker calls the
- * functions that `by` has.
+ * This file parses the options, and has a server under a lock, which is called in three ways: `serve` calls it,
+ * for a trace; `serve_traced` does so under the lock; and `serve_apart` copies the reply after releasing the lock.
+ * The transport is fuse_device.c, which main() calls; its workers call the functions of `by`.
  *
- * Users of the mount are not trusted, nor is what they ask for: Linux checks permissions
- * (default_permissions), and what they write takes memory up to `size` and `nr_inodes`, which have bounds
- * without a word too. Who gives the words is root.
+ * Users of the mount are not trusted: Linux checks permissions (default_permissions), and the memory of their
+ * files is limited by `size` and `nr_inodes`, which have defaults. The command line is root's.
  *
- * Status 0: it was unmounted; 1: something failed; 2: the words or options can't be. Standard error says
- * what. */
+ * Exit status 0: it was unmounted; 1: an error occurred; 2: the command line is invalid. Errors are printed on
+ * standard error. */
 #define _GNU_SOURCE
 #include <errno.h>
 #include <getopt.h>
@@ -57,8 +55,8 @@ static const char usage[] =
 	"      --version           print the version\n"
 	"  -h, --help              print this text\n";
 
-/* What the options say: set before there are workers, but for the time, which the first of them sets. Sizes
- * are in bytes. Strings point into the words of main(), and are not freed. */
+/* The options, which are set before there are workers, except for the time, which the first worker sets. Sizes are
+ * in bytes. Strings point into the arguments of main(), and are not freed. */
 static nizwarf_server_config settings = NIZWARF_SERVER_CONFIG;
 static unsigned long flags = MS_NOSUID | MS_NODEV, max_read = TRANSPORT_PAYLOAD;
 static const char *name = "nizwarf", *allow_other = "", *trace_file;
@@ -77,8 +75,8 @@ static __attribute__((format(printf, 1, 2))) _Noreturn void refuse_words(const c
 	exit(2);
 }
 
-/* The number that a value is, from `least` to `most`. It may end in one of the suffixes, of which the first
- * is 1024, the second that times 1024, and so on. */
+/* Returns a number from `least` to `most`. It may end in one of the suffixes, of which the first means 1024, the
+ * second 1024 times that, and so on. */
 static uint64_t number(const char *key, const char *value, const char *suffixes, int base, uint64_t least,
 		       uint64_t most)
 {
@@ -88,7 +86,7 @@ static uint64_t number(const char *key, const char *value, const char *suffixes,
 
 	if (!value)
 		refuse_words("option '-o %s' requires an argument", key);
-	/* strtoull takes spaces and signs too. */
+	/* strtoull() accepts white space and signs too. */
 	if (*value < '0' || *value > '9')
 		refuse_words(wrong, value, key);
 	errno = 0;
@@ -106,9 +104,9 @@ static uint64_t number(const char *key, const char *value, const char *suffixes,
 	return n;
 }
 
-/* Takes one option: a word, whose value is NULL, or KEY=VALUE. Where several say the same the last one
- * holds. Ends with status 2 if it can't be. A user or group of 2^32 - 1 is none, and a read of less than a
- * page is not asked for. */
+/* Handles one option: a name, whose value is NULL, or KEY=VALUE. If an option is repeated, the last one applies.
+ * If it is invalid, exits with status 2. A user or group id must be below 2^32 - 1, and max_read must be at least
+ * a page. */
 static void take_option(const char *key, char *value)
 {
 	static const struct {
@@ -149,7 +147,7 @@ static void take_option(const char *key, char *value)
 		refuse_words("unrecognized option '-o %s'", key);
 }
 
-/* Takes options with commas between them, which are cut apart in place. An empty one is let pass. */
+/* Handles options separated by commas. It modifies the text. Empty options are ignored. */
 static void take_options(char *rest)
 {
 	char *option;
@@ -162,7 +160,7 @@ static void take_options(char *rest)
 	}
 }
 
-/* Long words, by numbers that no letter has. */
+/* The long options, as numbers above those of letters. */
 enum word { TRACE = 256, VERSION, HELP };
 
 static const struct option known_words[] = { { "trace", optional_argument, NULL, TRACE },
@@ -170,9 +168,8 @@ static const struct option known_words[] = { { "trace", optional_argument, NULL,
 					     { "help", no_argument, NULL, HELP },
 					     { 0 } };
 
-/* Takes one word, which getopt_long found; the beginning of one is none, though getopt_long takes it: a
- * word that is added later must not change what an old line means. `known` is NULL where it is no long
- * word. */
+/* Handles an option that getopt_long(3) found. An abbreviation, which getopt_long(3) accepts, is refused, because
+ * a new option could make it ambiguous. `known` is NULL if it is not a long option. */
 static void take_word(int found, const char *word, const struct option *known)
 {
 	const char letter[] = { '-', (char)optopt, 0 };
@@ -205,7 +202,7 @@ static void take_word(int found, const char *word, const struct option *known)
 	}
 }
 
-/* Takes the words, and gives the folder. What words ask to print is printed here, and ends the process. */
+/* Parses the arguments and returns the directory. It exits if an option only prints something. */
 static const char *take_words(int count, char **words)
 {
 	opterr = 0;
@@ -218,22 +215,22 @@ static const char *take_words(int count, char **words)
 	return words[optind];
 }
 
-/* The server, which has one caller at a time: whoever has the lock. How many workers there are that may;
- * the lock guards that too. A trace takes that of its file while it is held. */
+/* The server, which only the owner of the lock may call; and the number of workers, which the lock protects too. A
+ * trace takes the lock of its file while this one is held. */
 static nizwarf_server server = NIZWARF_SERVER_INIT;
 static pthread_mutex_t lock = PTHREAD_MUTEX_INITIALIZER;
 static unsigned callers;
-/* With a trace: what is called then. Else the memory of each worker's last reply, by its number: that
- * worker alone has it, and frees it as it ends. */
+/* With a trace, the function that it calls. Otherwise, the memory of each worker's last reply, by its number,
+ * which only that worker uses, and frees when it ends. */
 static transport traced;
 static nizwarf_reply_buf taken[TRANSPORT_MOST_WORKERS + 1];
 
-/* How often a caller looks for the lock before it sleeps: for some 100 microseconds, in which the data of two or
- * three requests are copied. */
+/* How often a worker tries the lock before it sleeps: about 100 microseconds, in which the data of two or three
+ * requests are copied. */
 enum { LOOKS = 5000 };
 
-/* The first worker to begin makes the server, and the last to end ends it: with it all files are gone. Not
- * 0 ends the transport. A new server has the time of the day, for its root. */
+/* The first worker to begin creates the server, and the last one to end frees it with all its files. A result
+ * other than 0 ends the transport. The time is that of the new root directory. */
 static int begin(void *user, unsigned worker)
 {
 	int32_t code = NIZWARF_OK;
@@ -266,8 +263,7 @@ static void end(void *user, unsigned worker)
 	pthread_mutex_unlock(&lock);
 }
 
-/* Tells the server the time, which it has no other way to learn: for what is made or changed by the next
- * request. The lock is held. */
+/* Sets the server's time, for files that the next request creates or changes. The lock must be held. */
 static void tell_time(void)
 {
 	struct timespec now;
@@ -276,7 +272,7 @@ static void tell_time(void)
 	nizwarf_server_set_time(&server, (uint64_t)now.tv_sec, (uint32_t)now.tv_nsec);
 }
 
-/* Asks the server, whose reply goes into the rooms. The lock is held. */
+/* Calls the server, which writes the reply to the buffers. The lock must be held. */
 static int32_t serve(void *user, unsigned worker, const struct iovec *request, size_t segments,
 		     const struct iovec *room, size_t rooms, size_t *len)
 {
@@ -285,8 +281,8 @@ static int32_t serve(void *user, unsigned worker, const struct iovec *request, s
 	return nizwarf_server_handle(&server, request, segments, room, rooms, len);
 }
 
-/* Takes the lock. (Another caller has it for less time than the looks take, unless it copies many data: so
- * it is looked for before the thread sleeps.) */
+/* Takes the lock. (It tries before it sleeps, because other workers hold the lock only for a short time, unless
+ * they copy much data.) */
 static void take_server(void)
 {
 	for (int i = 0; i < LOOKS; i++)
@@ -295,14 +291,14 @@ static void take_server(void)
 	pthread_mutex_lock(&lock);
 }
 
-/* Gives the lock up. (The heap is looked at before that, and so by one thread at a time.) */
+/* Releases the lock. (The heap is checked before that, so by one thread at a time.) */
 static void leave_server(void)
 {
 	heap_look();
 	pthread_mutex_unlock(&lock);
 }
 
-/* The same with a trace, whose order is that of the server. */
+/* The same with a trace, so that the trace has the order of the server. */
 static int32_t serve_traced(void *user, unsigned worker, const struct iovec *request, size_t segments,
 			    const struct iovec *room, size_t rooms, size_t *len)
 {
@@ -314,8 +310,7 @@ static int32_t serve_traced(void *user, unsigned worker, const struct iovec *req
 	return code;
 }
 
-/* Copies a reply over the first bytes of the rooms, which are as many at least: the server was told how
- * many there are, and makes no longer reply. */
+/* Copies a reply to the buffers, which are large enough, because the server got their size. */
 static void put_reply(const unsigned char *reply, size_t len, const struct iovec *room)
 {
 	for (size_t done; len; room++, reply += done, len -= done) {
@@ -324,8 +319,8 @@ static void put_reply(const unsigned char *reply, size_t len, const struct iovec
 	}
 }
 
-/* The same, whose reply is copied while another caller has the server. The reply lies in memory that the
- * server made and gave to this worker, until it asks again. NULL: there is none. */
+/* The same, but the reply is copied while another worker may call the server. The reply is in memory that belongs
+ * to this worker until its next call. NULL: there is no reply. */
 static int32_t serve_apart(void *user, unsigned worker, const struct iovec *request, size_t segments,
 			   const struct iovec *room, size_t rooms, size_t *len)
 {
@@ -361,10 +356,10 @@ int main(int count, char **words)
 	heap_begin();
 	if (traces && trace_begin(&by, trace_file))
 		return 1;
-	/* (serve_traced() calls that: the trace's function, which calls serve()) */
+	/* (serve_traced() calls the function of the trace, which calls serve()) */
 	traced = by;
 	by.serve = traces ? serve_traced : serve_apart;
-	/* (with default_permissions Linux checks them, by the attributes that the server tells) */
+	/* (with default_permissions Linux checks permissions by the attributes that the server returns) */
 	snprintf(options, sizeof(options), ",default_permissions,max_read=%lu%s", max_read, allow_other);
 	device = fuse_device_mount(&by, name, folder, flags, options);
 	return device < 0 ? 1 : fuse_device_serve(&by, device, folder);

@@ -1,13 +1,13 @@
-/* The file system of the library, for vhost-user: the virtio-fs device of a virtual machine.
+/* nizwarf-vhost: the file system of the library over vhost-user, as the virtio-fs device of a virtual machine.
  *
  * Usage: nizwarf-vhost [--trace[=FILE]] SOCKET
  *
- * A front end, as QEMU, connects to the socket. When it hangs up the next one is served, over the
- * same files; one that comes earlier waits. SIGINT, SIGTERM and SIGHUP end it. The server has one
- * caller, so there is one worker, and no request is taken before the last one is completed.
+ * A front end such as QEMU connects to the socket. When it disconnects, the next one is served, with the same
+ * files; one that connects earlier waits. SIGINT, SIGTERM and SIGHUP end the program. The server has one caller,
+ * so there is one worker, which completes a request before it reads the next one.
  *
- * Status 0: a signal ended it, and the socket is gone; 1: something failed; 2: it was started
- * wrongly. */
+ * Exit status 0: a signal ended it, and the socket was removed; 1: an error occurred; 2: the command line is
+ * invalid. */
 #define _GNU_SOURCE
 #include <stdbool.h>
 #include <stdio.h>
@@ -29,10 +29,10 @@ static const char usage[] =
 	"      --version       print the version\n"
 	"  -h, --help          print this text\n";
 
-/* The files: the worker's alone, from its begin to its end. With the process they are gone. */
+/* The server, which only the worker uses. Its files are lost when the process exits. */
 static nizwarf_server server = NIZWARF_SERVER_INIT;
 
-/* A new server over new files. Not 0: it failed, and the transport ends. */
+/* Creates the server. A result other than 0 ends the transport. */
 static int begin(void *user, unsigned worker)
 {
 	nizwarf_server_config settings = NIZWARF_SERVER_CONFIG;
@@ -55,8 +55,8 @@ static void end(void *user, unsigned worker)
 	nizwarf_server_free(&server);
 }
 
-/* Answers a request in a guest's own memory. (The server reads the request once, and none of the reply: what a guest
- * changes meanwhile is its own loss. Requests are copied before.) */
+/* Handles a request in the guest's memory. (The server reads the request once, and never reads the reply, so a
+ * guest that changes them harms only itself. Requests are copied before.) */
 static int32_t serve(void *user, unsigned worker, const struct iovec *request, size_t segments,
 		     const struct iovec *room, size_t rooms, size_t *len)
 {
@@ -65,10 +65,10 @@ static int32_t serve(void *user, unsigned worker, const struct iovec *request, s
 
 	(void)user, (void)worker;
 	clock_gettime(CLOCK_REALTIME, &now);
-	/* (a library asks no clock: what this request changes has this time) */
+	/* (the library does not read the clock, so this is the time of changes by this request) */
 	nizwarf_server_set_time(&server, (uint64_t)now.tv_sec, (uint32_t)now.tv_nsec);
 	code = nizwarf_server_handle(&server, request, segments, room, rooms, len);
-	/* (on the only worker, so by one thread at a time) */
+	/* (there is only one worker, so this is called by one thread at a time) */
 	heap_look();
 	return code;
 }
@@ -79,7 +79,7 @@ static void *remove_it(void *none)
 	return none;
 }
 
-/* Where the process ends. If the folder of the socket doesn't answer, it is left. */
+/* Called when the process exits. If the file system of the socket does not respond, the socket is left. */
 static void remove_socket(void *user)
 {
 	(void)user;
@@ -91,7 +91,7 @@ static void leave(void)
 	remove_socket(NULL);
 }
 
-/* Prints what a word asks for. Whether it asks for something. */
+/* Handles an option that only prints something. Returns whether it is one. */
 static bool prints(const char *word)
 {
 	const bool is_version = !strcmp(word, "--version");
@@ -110,7 +110,7 @@ int main(int count, char **words)
 {
 	transport by = { .program = "nizwarf-vhost",
 			 .workers = 1,
-			 /* (the files have no handles: an OPEN need not come, and so not cut them either) */
+			 /* (files have no handles, so OPEN may be skipped: Linux truncates by SETATTR) */
 			 .withheld = FUSE_ATOMIC_O_TRUNC | TRANSPORT_ALLOW_IDMAP,
 			 .begin = begin,
 			 .end = end,
@@ -120,7 +120,7 @@ int main(int count, char **words)
 	int listener, status;
 
 	if (count == 2 && prints(words[1]))
-		return fflush(stdout) != 0; /* what could not be written is an error */
+		return fflush(stdout) != 0; /* output that cannot be written is an error */
 	if (count > 1 && (!strcmp(words[1], "--trace") || !strncmp(words[1], "--trace=", 8))) {
 		trace = words[1] + strlen("--trace");
 		count--;
@@ -136,17 +136,17 @@ int main(int count, char **words)
 		fputs("Try 'nizwarf-vhost --help' for more information.\n", stderr);
 		return 2;
 	}
-	/* (before the socket is there: who connects is served with the trace) */
+	/* (before the socket exists, so that the first client is traced too) */
 	if (trace && trace_begin(&by, *trace ? trace + 1 : NULL))
 		return 1;
 	heap_begin();
-	/* (the folder of the socket may not answer) */
+	/* (the file system of the socket may not respond) */
 	if (guard_begin(by.program, leave))
 		return 1;
 	listener = vhost_user_listen(&by, words[1]);
 	guard_end();
 	if (listener < 0)
-		return -listener; /* 1: it failed; 2: the path can't be */
+		return -listener; /* 1: an error occurred; 2: the path is invalid */
 	status = vhost_user_serve(&by, listener);
 	remove_socket(NULL);
 	return status;
