@@ -24,9 +24,9 @@ fn main() {
         Err(_) => link_installed(),
     };
     if let Err(fault) = found {
-        eprintln!("libnizwarf was not found: {fault}.");
+        eprintln!("cannot find libnizwarf: {fault}");
         eprintln!("Install its development package, so that `pkg-config {NAME}` finds it, or set");
-        eprintln!("NIZWARF_LIB_DIR to a folder with libnizwarf.a, with libnizwarf.so, or with");
+        eprintln!("NIZWARF_LIB_DIR to a directory with libnizwarf.a, with libnizwarf.so, or with");
         eprintln!("libnizwarf_codec.a and liblibc_c.a.");
         exit(1);
     }

@@ -503,7 +503,7 @@ fn named(what: impl std::fmt::Display, error: &io::Error) -> io::Error {
 }
 
 fn c_string(bytes: &[u8]) -> io::Result<CString> {
-    let of_bytes = || format!("{:?} has a NUL", OsStr::from_bytes(bytes));
+    let of_bytes = || format!("{:?} contains a NUL byte", OsStr::from_bytes(bytes));
     CString::new(bytes).map_err(|_| io::Error::new(ErrorKind::InvalidInput, of_bytes()))
 }
 

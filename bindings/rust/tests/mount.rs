@@ -247,7 +247,7 @@ fn options_are_those_of_the_mount() {
     assert!(error.to_string().starts_with(&format!("{}: ", none.display())), "{error}");
     let name = MountOption::FSName("a\0".into());
     let error = mount(Odd::default(), &folder.0, &[name]).unwrap_err();
-    assert!(error.to_string().contains("has a NUL"), "{error}");
+    assert!(error.to_string().contains("contains a NUL byte"), "{error}");
 }
 
 #[test]
