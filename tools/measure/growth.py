@@ -182,7 +182,7 @@ def main():
     print("\nNanoseconds a file of a BATCH_FORGET of all, by processor time, and of a DESTROY of a million, by the clock;\n"
           "milliseconds of an INIT and four requests; and the bytes of a file that are left after the FORGET and the DESTROY.")
     table(["Daemon", "FORGET, ns", "left, bytes", "DESTROY, ns", "INIT, ms"], [[name, *grown[name][1]] for name in names])
-    print("\nNanoseconds a name of a folder of that many, by LOOKUP, OPENDIR, READDIR of 256 KiB up to the end, and RELEASEDIR.")
+    print("\nNanoseconds per name of a directory of that many, by LOOKUP, OPENDIR, READDIR of 256 KiB up to the end, and RELEASEDIR.")
     table(["Daemon", *(f"{size:,}" for size in FOLDERS if size <= most)], [[name, *list_folders(name)] for name in (SHARE, VIRTIOFSD, LIBFUSE)])
     print("\nThousands of GETATTR a second by the clock, by the number in flight over all queues, and in brackets the microseconds of\n"
           "processor time of each. One thread sends them, which shares the processors with the daemon.")

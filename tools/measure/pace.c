@@ -285,7 +285,7 @@ static void take_answer(unsigned i, const struct request *r)
 
 	memcpy(&error, place_of(i)->answered + 4, sizeof(error));
 	if (error != r->expected) {
-		fprintf(stderr, "opcode %" PRIu32 " is answered %d\n", r->opcode, error);
+		fprintf(stderr, "pace: unexpected error %d of opcode %" PRIu32 "\n", error, r->opcode);
 		exit(3);
 	}
 	note(i, r);
@@ -535,7 +535,7 @@ static struct request request_of(const char *class, struct transfer *record)
 			WRITE, file_node, record, sizeof(*record), 8, record->size, 0, 0, 0
 		};
 	if (strncmp(class, "readdir", 7)) {
-		fprintf(stderr, "There is no class %s: %s.\n", class, CLASSES);
+		fprintf(stderr, "pace: unknown class '%s': must be one of %s\n", class, CLASSES);
 		exit(3);
 	}
 	*record = (struct transfer){ .handle = names_handle, .size = ROOM };

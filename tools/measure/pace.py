@@ -42,7 +42,7 @@ def options():
     given = parser.parse_args()
     for name in given.classes:
         if name not in CLASSES:
-            sys.exit(f"There is no class {name}: {','.join(CLASSES)}.")
+            sys.exit(f"pace.py: unknown class '{name}': must be one of {', '.join(CLASSES)}")
     return given
 
 

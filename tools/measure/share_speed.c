@@ -1,7 +1,7 @@
 /* Does what programs do with files, and measures its time: for share_speed.py.
  *
- * Usage: share_speed CLASS FOLDER JOBS
- *        share_speed CLASS FOLDER JOBS SERVER [COMMAND..]
+ * Usage: share_speed CLASS DIRECTORY JOBS
+ *        share_speed CLASS DIRECTORY JOBS SERVER [COMMAND..]
  * Each job is a process with a folder of its own, job-N. The first form creates the folders and the files that the class
  * needs. The second form runs the jobs and prints three numbers of seconds: by the clock, from when all jobs begin until
  * the last one has ended; of processor time of the process SERVER and its descendants; and of processor time of the jobs.
@@ -371,7 +371,7 @@ int main(int count, char **words)
 	while (which < known && jobs > 0 && strcmp(classes[which].name, words[1]) != 0)
 		which++;
 	if (jobs < 1 || which == known) {
-		fputs("Usage: share_speed CLASS FOLDER JOBS [SERVER [COMMAND..]]\n", stderr);
+		fputs("Usage: share_speed CLASS DIRECTORY JOBS [SERVER [COMMAND..]]\n", stderr);
 		return 2;
 	}
 	memset(bytes, 7, sizeof(bytes)); /* so that no file is one of holes */
