@@ -1,7 +1,9 @@
-"""Measures how daemons grow with what they serve, for growth.sh, which says what.
+"""Measures how the memory and time of daemons grow, for growth.sh.
 
 Usage: growth.py PACE WORK MOST SHARE PASSTHROUGH_LL VIRTIOFSD..
-PACE is the built tools/measure/pace.c, WORK an empty folder in memory, MOST the greatest number of files."""
+
+PACE is the built tools/measure/pace.c, WORK an empty directory in memory, and MOST the largest number of files. The others
+are the daemons."""
 import os
 import socket
 import subprocess

@@ -1,15 +1,14 @@
-"""Measures vhost-user daemons of virtio-fs, in turns: for tools/measure/share-speed.sh.
+"""Measures vhost-user daemons of virtio-fs in turns, for tools/measure/share-speed.sh.
 
 Usage: pace.py [--rounds N] [--ms N] [--depths LIST] [--classes LIST] [--clock] PACE WORK DAEMONS
 
-PACE is the built pace.c, which sends requests as a guest of Linux does, and WORK an empty folder in memory. DAEMONS is a
-file with a line for each daemon, whose fields are separated by tabs: NAME and the words of its command, in which {socket},
-{folder} and {sandbox} stand for its socket, for the folder that it shares, and for what its sandbox is.
+PACE is the built pace.c, which sends requests as a guest of Linux does, and WORK an empty directory in memory. DAEMONS is a
+file with a line for each daemon, whose fields are separated by tabs: its name, and its command with arguments. In these,
+{socket}, {folder} and {sandbox} are replaced by the socket, the shared directory, and the sandbox.
 
-It prints a table in Markdown. For each class of requests, and each number of requests in flight, it has the processor time
-of the first daemon, in microseconds a request, and of each other one the median of the ratios to it, with the quartiles in
-brackets. With --clock a second table has the same of the time by the clock.
-"""
+It prints a table in Markdown. For each class of requests and each number of requests in flight, the table has the processor
+time of the first daemon, in microseconds per request, and for each other daemon the median of the ratios to it, with the
+quartiles in brackets. With --clock, a second table has the same for the time by the clock."""
 import argparse
 import contextlib
 import os

@@ -1,16 +1,15 @@
-"""Measures what programs do with files over mounts of several servers, in turns: for share-speed.sh and libfuse-speed.sh.
+"""Measures the use of files over mounts of several servers in turns, for share-speed.sh and libfuse-speed.sh.
 
 Usage: share_speed.py [--rounds N] [--jobs N] [--classes LIST] [--clock] [--calls] SPEED WORK REPOSITORY SERVERS
 
-SPEED is the built share_speed.c, WORK an empty folder in memory, and REPOSITORY a clone whose files some classes use.
-SERVERS is a file with a line for each server, whose fields are separated by tabs: NAME, KIND, and the words of its
-command, in which {folder} and {mount} stand for the folder that it shares and for its mount point. KINDS has the kinds.
+SPEED is the built share_speed.c, WORK an empty directory in memory, and REPOSITORY a clone whose files some classes use.
+SERVERS is a file with a line for each server, whose fields are separated by tabs: its name, its kind (see KINDS), and its
+command with arguments, in which {folder} and {mount} are replaced by the shared directory and the mount point.
 
-It prints a table in Markdown. Its cells are ratios of the first server's processor time to that of another one: the
-server's alone, with the quartiles in brackets, and that of the server and the programs together, since one server may
-leave to the kernel's part in a program what another one does itself. With --clock a second table has the same of the time
-by the clock. With --calls it counts system calls by strace instead, and prints a table of them.
-"""
+It prints a table in Markdown. Its cells are ratios of the first server's processor time to that of another one: that of the
+server alone, with the quartiles in brackets, and that of the server and the programs together, because a server may leave
+work to the kernel's part of a program that another server does itself. With --clock, a second table has the same for the
+time by the clock. With --calls, it counts system calls by strace instead."""
 import argparse
 import collections
 import ctypes

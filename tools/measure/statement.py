@@ -1,18 +1,18 @@
 #!/usr/bin/env python3
-"""Counts what a reader of a promise has to read: the definitions that it names, those that these name, and
-so on.
+"""Counts the definitions that a reader of a promise must read: those that it names, those that these name, and so on.
 
 Usage: tools/measure/statement.py [--files] [CRATE/FILE.NAME ..]
-A definition to begin with is written vfs_server/Session.IsSession, which is also what is counted without one. With
---files it also prints each file, with how many of its definitions and lines are reached.
 
-Lines are those of definitions, without comments and empty lines. Types of the code, as records and enums of
-the protocol, are counted apart. So are the tables of records, opcodes, error numbers and single options, since the
-gate compiles them against the kernel's headers (tests/c/kernel.py); of the codec the numbers of codes, copies of
-records by the names of their fields, and records of zeros, which it compiles against nizwarf.h too (tests/c/data.py);
-and the decoders of records, made_..: how a record is made of its fields follows of how it is split into them, by
-the law decoding_is_the_inverse of vfs_wire.
-It stops at an import that it can't read or follow, since what is imported would not be counted."""
+The arguments are definitions to start with, such as vfs_server/Session.IsSession, which is the default. With --files it
+also prints, for each file, how many of its definitions and lines are reached.
+
+Lines are those of definitions, without comments and empty lines. Types of the code, such as records and enums of the
+protocol, are counted separately. So are definitions that the gate compares with headers by a compiler: tables of records,
+opcodes, error numbers and options with the kernel's headers (tests/c/kernel.py), and numbers of codes, copies of records by
+the names of their fields, and records of zeros with nizwarf.h (tests/c/data.py). And so are the functions made_.., because
+the law decoding_is_the_inverse of vfs_wire proves them from the functions that split records.
+
+It fails at an import that it cannot read or follow, because the imported definitions would not be counted."""
 import collections, glob, os, re, sys
 
 sys.dont_write_bytecode = True
