@@ -17,16 +17,16 @@
 #include "passthrough_watch.h"
 #include "say.h"
 
-/* How long a client may remember, in milliseconds. */
+/* In milliseconds: how long a client may cache something. */
 enum { NO_TIME = 0, LONG_TIME = 86400000 };
 /* The enabled features, besides locks. */
 enum { OFFERS = NIZWARF_FEATURE_STATX | NIZWARF_FEATURE_COPY_64 | NIZWARF_FEATURE_TMPFILE };
-/* How many descriptors a call of a worker opens and closes again: of two nodes, and one more. */
+/* How many descriptors a worker's call opens and closes: those of two nodes, and one more. */
 enum { PASSING = 3 };
 
 /* ---- pieces of requests and reply buffers */
 
-/* Adds a piece, which is cut at `*left`. */
+/* Adds a piece of at most `*left` bytes. */
 static bool add_piece(struct worker *w, size_t *count, void *at, size_t len, size_t *left)
 {
 	len = len < *left ? len : *left;
@@ -39,7 +39,7 @@ static bool add_piece(struct worker *w, size_t *count, void *at, size_t len, siz
 	return true;
 }
 
-/* The data of a WRITE, where they lie: -1, or how many pieces. */
+/* Finds the data of a WRITE in the request. Returns the number of pieces, or -1. */
 static ssize_t find_data(struct worker *w, const nizwarf_call *asked, const struct iovec *request,
 			 size_t segments)
 {
@@ -76,10 +76,10 @@ static ssize_t find_room(struct worker *w, const nizwarf_call *asked, const stru
 
 /* ---- requests */
 
-/* How many times it is tried for want of memory, where to give up would lose something. */
+/* How many times an operation that must not fail is retried when out of memory. */
 enum { TRIES = 10000 };
 
-/* Lets a millisecond pass. */
+/* Waits for a millisecond. */
 static void let_pass(void)
 {
 	const struct timespec pause = { 0, 1000000 };
@@ -87,7 +87,7 @@ static void let_pass(void)
 	nanosleep(&pause, NULL);
 }
 
-/* Keeps the options of a client, unless it has gone: the next one may have agreed on others. */
+/* Stores the negotiated options of a client, unless it has disconnected. */
 static void agree_on(struct passthrough *all, unsigned client, uint64_t options)
 {
 	pthread_mutex_lock(&all->agreeing);
@@ -207,13 +207,13 @@ int32_t passthrough_serve(void *user, unsigned worker, const struct iovec *reque
 	return code;
 }
 
-/* ---- from beginning to end */
+/* ---- start and end */
 
 int passthrough_begin(void *user, unsigned worker)
 {
 	struct passthrough *all = user;
 
-	/* (one in place of another) */
+	/* (a worker may replace another one) */
 	if (!all->worker[worker])
 		all->worker[worker] = calloc(1, sizeof(struct worker));
 	if (!all->worker[worker]) {
@@ -300,7 +300,7 @@ void passthrough_parted(void *user)
 		await_closed(left);
 }
 
-/* What waits for a lock is answered now. */
+/* Ends all waits for locks. */
 void passthrough_recall(void *user)
 {
 	struct passthrough *all = user;
@@ -321,7 +321,7 @@ static int look_at_folder(struct passthrough *all, int root)
 	all->is_local = result.f_type == EXT4_SUPER_MAGIC || result.f_type == XFS_SUPER_MAGIC ||
 			result.f_type == BTRFS_SUPER_MAGIC || result.f_type == TMPFS_MAGIC;
 	all->local_device = seen.st_dev;
-	/* (where one will do, the mount may be below another file system) */
+	/* (the smallest depth that suffices, so that another file system can be stacked on the mount) */
 	all->stack_depth = result.f_type == OVERLAYFS_SUPER_MAGIC || result.f_type == ECRYPTFS_SUPER_MAGIC ||
 					   result.f_type == FUSE_SUPER_MAGIC ?
 				   2 :
@@ -351,7 +351,7 @@ static void free_passthrough(struct passthrough *all)
 	free(all);
 }
 
-/* Says how long a client may remember names and attributes. */
+/* Sets how long a client may cache names and attributes. */
 static void set_times(struct passthrough *all)
 {
 	const struct passthrough_options *options = &all->options;
@@ -412,7 +412,7 @@ int passthrough_watch(struct passthrough *all)
 	watch = watch_new(all->nodes.proc, options->notices, options->negative_time != 0);
 	if (!watch)
 		return -1;
-	/* (others may change a file of another kind where nobody here sees it) */
+	/* (on other file systems, others may change a file where this host does not notice it) */
 	if (!all->is_local)
 		fputs("nizwarf-share: warning: --watch: the directory is not on ext4, xfs, btrfs or tmpfs: names and "
 		      "attributes are cached for one second\n",

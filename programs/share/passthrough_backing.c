@@ -29,7 +29,7 @@ enum { CHAINS = 1024 };
 struct backing {
 	struct backings *of;
 	uint64_t node;
-	/* 0: the client has it by requests. */
+	/* 0: the file is read and written by requests. */
 	int number;
 	/* Under the lock. */
 	unsigned opens;
@@ -175,7 +175,7 @@ int backing_take(const struct call *call, uint64_t node, int fd, struct backing 
 					  .node = node,
 					  .number = is_refused(call, fd) ? 0 : number_of(call, fd) };
 		found = add_open(all, node, made);
-		/* (another open of it came first, and has a number or none; this one's is closed) */
+		/* (another open came first and decides; this registration is undone) */
 		if (found != made)
 			free_backing(made);
 	}

@@ -69,7 +69,8 @@ static int open_node(const struct call *call, int flags)
 		errno = type == S_IFLNK ? ELOOP : ENXIO;
 		return -1;
 	}
-	/* (a directory is where its own descriptor leads, whatever has its name now, unless the server may not search it) */
+	/* (a directory is opened by its own descriptor, whatever has its name now, unless the server may not
+	 * search it) */
 	fd = type == S_IFDIR ? openat(call->node.fd, ".", flags | O_CLOEXEC) :
 			       open_by_name(&call->all->nodes, call->node.node, flags);
 	/* (by /proc, which takes longer, but requires neither a name nor permissions of the directory) */
@@ -89,7 +90,7 @@ static int get_attr(const struct call *call)
 	return 0;
 }
 
-/* The host's time in the record of the reply, whose padding must be 0. */
+/* Returns the host's time for a reply, whose padding must be 0. */
 static nizwarf_sx_time time_of(const struct statx_timestamp *time)
 {
 	return (nizwarf_sx_time){ .tv_sec = time->tv_sec, .tv_nsec = time->tv_nsec };
@@ -133,12 +134,12 @@ static int get_statx(const struct call *call)
 	return 0;
 }
 
-/* Linux has no mode of a symbolic link that could be set. */
+/* Linux cannot set the mode of a symbolic link. */
 static int set_mode(const struct call *call)
 {
 	if (call->file)
 		return failed(fchmod(call->file->counted.fd, call->asked->attr.mode & 07777));
-	/* (the name is one of /proc, which leads to the node itself) */
+	/* (the name in /proc leads to the node itself) */
 	return call->node.node->type == S_IFLNK ?
 		       EOPNOTSUPP :
 		       failed(fchmodat(call->all->nodes.proc, name_fd(call->node.fd).bytes,
@@ -150,7 +151,7 @@ static int set_size(const struct call *call)
 	const off_t size = (off_t)call->asked->attr.size;
 	int fd, error;
 
-	/* (a client's size has 64 bits without a sign) */
+	/* (a client's size has 64 bits without a sign, and the host's has one) */
 	if (size < 0)
 		return EFBIG;
 	fd = call->file ? call->file->counted.fd : open_node(call, O_WRONLY);
@@ -171,7 +172,7 @@ static int set_owner(const struct call *call, uint32_t valid)
 {
 	const struct passthrough_options *options = &call->all->options;
 	const nizwarf_setattr *to = &call->asked->attr;
-	/* (-1 leaves an owner as it is) */
+	/* (-1 does not change an owner) */
 	uint32_t uid = UINT32_MAX, gid = UINT32_MAX;
 	int error = 0;
 
@@ -252,7 +253,7 @@ static int access_node(const struct call *call)
 		bits = seen.stx_mode >> 6 & 7;
 	else if (asked->gid == ids_to_client(&options->groups, seen.stx_gid))
 		bits = seen.stx_mode >> 3 & 7;
-	/* (root may read and write all, and execute what anyone may) */
+	/* (root may read and write everything, and execute files that somebody may execute) */
 	if (!asked->uid)
 		bits = R_OK | W_OK | (S_ISDIR(seen.stx_mode) || seen.stx_mode & 0111 ? X_OK : 0);
 	return nizwarf_access_mask(asked) & 7 & ~bits ? EACCES : 0;
@@ -274,7 +275,7 @@ static int read_link(const struct call *call)
 
 /* ---- open files */
 
-/* The flags of open(2) that a client may choose. */
+/* Returns the flags of open(2) that a client may choose. */
 static int flags_of(const struct call *call)
 {
 	const uint32_t flags = call->asked->flags;
@@ -283,7 +284,7 @@ static int flags_of(const struct call *call)
 	 * follow a link) */
 	int made = (int)(flags & (O_ACCMODE | O_APPEND | O_TRUNC | O_SYNC | O_DSYNC | O_NOATIME | direct));
 
-	/* The kernel reads pages that are written in part, and knows itself where the end is. */
+	/* The kernel reads a page before it writes a part of it, and determines the end of the file itself. */
 	if (writes_later(call)) {
 		if ((made & O_ACCMODE) == O_WRONLY)
 			made = (made & ~O_ACCMODE) | O_RDWR;
@@ -361,7 +362,7 @@ static int open_file(const struct call *call)
 		return error;
 	lose_fsetid(call);
 	fd = open_node(call, flags);
-	/* (its owner may have that, and the server need not be) */
+	/* (only the owner may use O_NOATIME, and the server needs not be the owner) */
 	if (fd < 0 && errno == EPERM && flags & O_NOATIME && !call->all->options.keeps_noatime)
 		fd = open_node(call, flags & ~O_NOATIME);
 	error = fd < 0 ? errno : 0;
@@ -473,7 +474,7 @@ static int tell_new(const struct call *call, const char *name, int fd, int path,
 	return error;
 }
 
-/* A file without a name, which a LINK may give it one. */
+/* A file without a name, to which LINK may give one. */
 static int create_unnamed(const struct call *call)
 {
 	int fd = -1, path, error;
@@ -511,7 +512,7 @@ static int create_file(const struct call *call)
 	return error;
 }
 
-/* SYNCFS: of the whole file system of the node, as syncfs(2) knows no smaller part. */
+/* SYNCFS: syncs the whole file system of the node, as syncfs(2) does. */
 static int sync_all(const struct call *call)
 {
 	const int fd = open_node(call, O_RDONLY);
@@ -555,7 +556,7 @@ static int remove_name(const struct call *call, const char *name, int flags)
 	return error;
 }
 
-/* ---- which call it is */
+/* ---- selection of a call */
 
 /* Returns whether a call modifies the directory. */
 static bool changes(const nizwarf_call *asked)
@@ -579,7 +580,7 @@ static bool changes(const nizwarf_call *asked)
 	case NIZWARF_TMPFILE:
 		return true;
 	case NIZWARF_OPEN:
-		/* (Linux cuts a file that is opened to be read, too) */
+		/* (Linux also truncates a file that is opened for reading) */
 		return (asked->flags & O_ACCMODE) != O_RDONLY || asked->flags & O_TRUNC;
 	default:
 		return false;
@@ -590,7 +591,7 @@ static bool changes(const nizwarf_call *asked)
 static bool needs_file_alone(const nizwarf_call *asked)
 {
 	switch (asked->opcode) {
-	/* (the one looks its names up in the node, the other sets owner and times by it) */
+	/* (READDIR looks up names in the node, and SETATTR sets owner and times by it) */
 	case NIZWARF_READDIR:
 	case NIZWARF_SETATTR:
 		return false;
@@ -622,7 +623,7 @@ static int check_names(const struct call *call)
 	default:
 		return 0;
 	}
-	/* (POSIX has this error for the empty name) */
+	/* (in POSIX, ENOENT is the error of an empty name) */
 	if (!*name || !*other)
 		return ENOENT;
 	return is_plain(name) && is_plain(other) ? 0 : EINVAL;
@@ -780,10 +781,10 @@ static void forget_all(const struct call *call)
 
 const char *lacking_option(const struct passthrough *all, uint64_t options)
 {
-	/* (it would let in whom they deny) */
+	/* (otherwise users whom the lists deny would have access) */
 	if (all->options.posix_acl && ~options & HAS_LISTS)
 		return "--posix-acl: the client does not support access control lists";
-	/* (files would be made without one) */
+	/* (otherwise files would be created without a label) */
 	if (all->options.security_label && !(options & SECURITY_LABELS))
 		return "--security-label: the client does not support security labels";
 	return NULL;
@@ -815,7 +816,7 @@ static void forget_each(const struct call *call)
 	uint64_t pair[2];
 
 	for (uint64_t i = 0; i < nizwarf_batch_forget_pairs(call->asked); i++) {
-		/* (pairs are at any address: a request is not aligned) */
+		/* (pairs are not aligned) */
 		memcpy(pair, pairs + i * sizeof(pair), sizeof(pair));
 		node_forget(&call->all->nodes, call->client, pair[0], pair[1]);
 	}

@@ -64,8 +64,7 @@ static int transfer(const struct call *call)
 		call->answer->count = (uint64_t)direct;
 		return 0;
 	}
-	/* (those that are still in a pipe are written from there, and the others are in the segment
-	 * then) */
+	/* (data that are still in a pipe are written from there; otherwise they are in the segment) */
 	if (pieces == 1 && !is_read) {
 		direct = fuse_device_write_to(fd, asked->offset, data->iov_len);
 		if (direct < 0)
@@ -112,7 +111,7 @@ static int hold_write(struct open_file *file, bool at_end)
 	pthread_rwlock_rdlock(&file->writing);
 	if (file->at_end == at_end)
 		return 0;
-	/* (another one may have changed it meanwhile: it is looked at again) */
+	/* (another WRITE may have changed it meanwhile, so it is checked again) */
 	pthread_rwlock_unlock(&file->writing);
 	pthread_rwlock_wrlock(&file->writing);
 	if (file->at_end == at_end)
@@ -162,7 +161,7 @@ static bool is_append(const struct call *call)
 	return asked->flags & O_APPEND && !(asked->has & NIZWARF_WRITE_CACHE) && !writes_later(call);
 }
 
-/* WRITE. The rights that keep set-user-ID bits are this thread's, and are had again at each return. */
+/* WRITE. The capabilities that keep set-ID bits are dropped by this thread, and regained at each return. */
 static int write_file(const struct call *call)
 {
 	int error = leave_direct(call);
@@ -180,7 +179,7 @@ static int write_file(const struct call *call)
 	return error;
 }
 
-/* FALLOCATE. Its mode is the host's to refuse: EOPNOTSUPP, EINVAL. */
+/* FALLOCATE. The host refuses modes that it does not support: EOPNOTSUPP, EINVAL. */
 static int allocate(const struct call *call)
 {
 	const nizwarf_call *asked = call->asked;
@@ -210,8 +209,7 @@ static int seek(const struct call *call)
 	 * the size. */
 	if (writes_later(call))
 		return ENOSYS;
-	/* (the place of the descriptor, which this moves, is used by nobody: data are read and written
-	 * by offsets) */
+	/* (this moves the descriptor's position, which nothing uses: data are read and written with offsets) */
 	at = lseek(call->file->counted.fd, (off_t)asked->offset, (int)whence);
 	nizwarf_answer_offset(call->answer, (uint64_t)at);
 	return failed(at < 0 ? -1 : 0);
@@ -230,7 +228,7 @@ static int copy_range(const struct call *call)
 
 	if (!into)
 		return EBADF;
-	/* (no flag has a meaning yet) */
+	/* (no flag is defined yet) */
 	error = from < 0 || to < 0 || nizwarf_copy_flags(asked) ? EINVAL :
 								  lose_capability(call, into->counted.fd);
 	/* (copy_file_range(2) refuses a file with O_APPEND) */

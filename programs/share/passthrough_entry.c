@@ -45,7 +45,7 @@ static void put_attr(const struct call *call, const struct statx *seen, bool is_
 	attr->gid = ids_to_client(&options->groups, seen->stx_gid);
 	attr->rdev = (uint32_t)makedev(seen->stx_rdev_major, seen->stx_rdev_minor);
 	attr->blksize = seen->stx_blksize;
-	/* (the caller sets it, where something is mounted) */
+	/* (the caller sets it for a mount point) */
 	attr->flags = 0;
 }
 
@@ -88,7 +88,7 @@ void tell_attr(const struct call *call, const struct statx *seen, bool is_apart,
 void tell_entry(const struct call *call, uint64_t number, const struct statx *seen, nizwarf_entry *entry)
 {
 	const struct passthrough *all = call->all;
-	/* (a LINK is of the file's own node) */
+	/* (a LINK is about the file's own node) */
 	const struct node *node = call->node.node;
 	const bool across = is_across(node, seen), is_directory = S_ISDIR(seen->stx_mode);
 	const bool is_link = call->asked->opcode == NIZWARF_LINK;
@@ -140,7 +140,7 @@ int enter_name(const struct call *call, const struct found *found, nizwarf_entry
 	error = errno;
 	if (fd >= 0)
 		close(fd);
-	/* (nothing was opened: so neither the place nor the descriptor is used) */
+	/* (nothing was opened, so neither the reserved node nor its descriptor is used) */
 	node_give_back(&call->all->nodes);
 	return error;
 }
@@ -149,7 +149,7 @@ int enter_name(const struct call *call, const struct found *found, nizwarf_entry
  * returns `error`. */
 static int find_known(const struct call *call, const struct found *found, int error, nizwarf_entry *entry)
 {
-	/* (one descriptor for a moment, which those that are left for calls cover) */
+	/* (for a moment, one of the descriptors that are reserved for calls) */
 	const int fd = openat(found->directory, found->name, O_PATH | O_NOFOLLOW | O_CLOEXEC);
 	struct statx seen;
 	uint64_t number = 0;

@@ -8,7 +8,7 @@
 #include <unistd.h>
 #include "passthrough_holders.h"
 
-/* With which flags a file is opened again. */
+/* The flags with which a file is opened again. */
 enum { AGAIN = O_CLOEXEC | O_NONBLOCK | O_NOCTTY };
 
 struct holder **chain_of(struct locks *all, uint64_t node)
@@ -16,7 +16,7 @@ struct holder **chain_of(struct locks *all, uint64_t node)
 	return &all->chains[(uint32_t)node % CHAINS];
 }
 
-/* The holder of an owner in a file, or NULL. The lock is held. */
+/* Returns the holder of an owner in a file, or NULL. The lock must be held. */
 static struct holder *find(struct locks *all, uint64_t node, uint64_t owner)
 {
 	struct holder *h = *chain_of(all, node);
@@ -26,7 +26,7 @@ static struct holder *find(struct locks *all, uint64_t node, uint64_t owner)
 	return h;
 }
 
-/* Removes a holder from the table. The lock is held. */
+/* Removes a holder from the table. The lock must be held. */
 static void unlist(struct locks *all, struct holder *h)
 {
 	struct holder **at = chain_of(all, h->node);
@@ -37,7 +37,7 @@ static void unlist(struct locks *all, struct holder *h)
 	h->is_listed = false;
 }
 
-/* (the descriptor is closed without the lock, since that may take long) */
+/* (the descriptor is closed without the lock, because that may take long) */
 void holder_put(struct locks *all, struct holder *h)
 {
 	bool is_last;
@@ -109,8 +109,8 @@ struct holder *holder_take(const struct call *call, bool makes)
 	pthread_mutex_unlock(&all->lock);
 	if (h || !makes)
 		return h;
-	/* The file is opened without the lock. So another worker may have added a holder of the same owner by then: it is
-	 * looked for again, and the second one is not used. */
+	/* The file is opened without the lock, so another worker may have added a holder of the same owner by
+	 * then. It is searched again, and the second holder is not used. */
 	made = new_holder(call);
 	if (!made)
 		return NULL;
@@ -126,7 +126,7 @@ struct holder *holder_take(const struct call *call, bool makes)
 		*chain = h;
 	}
 	pthread_mutex_unlock(&all->lock);
-	/* (another call of this owner came first, or the client has gone) */
+	/* (another call of this owner came first, or the client has disconnected) */
 	if (h != made)
 		holder_put(all, made);
 	return h;
@@ -201,8 +201,8 @@ static bool cut_range(struct holder *h, size_t i, const struct range *cut)
 	return has_left || has_right;
 }
 
-/* Notes that the host has locked these bytes, or unlocked them. Like the host, it joins ranges of one type that touch,
- * so one that is reported by F_OFD_GETLK is found here as it is. */
+/* Notes that the host has locked or unlocked these bytes. Like the host, it joins adjacent ranges of one type, so
+ * that a range which F_OFD_GETLK returns is found here unchanged. */
 static void note_range(struct holder *h, struct range new)
 {
 	size_t i = 0;
@@ -222,7 +222,7 @@ static void note_range(struct holder *h, struct range new)
 		h->ranges[h->count++] = new;
 }
 
-/* ---- the locks of the host */
+/* ---- locks of the host */
 
 /* (FUSE sends the last byte, or INT64_MAX for no end) */
 struct range range_of(const nizwarf_lock *lock)
@@ -230,7 +230,7 @@ struct range range_of(const nizwarf_lock *lock)
 	return (struct range){ lock->start, lock->end < INT64_MAX ? lock->end : INT64_MAX, lock->type };
 }
 
-/* (the host has a length, of which 0 leads to whatever end the file has) */
+/* (the host uses a length, of which 0 means up to the end of the file) */
 struct flock to_host(const struct range *range)
 {
 	return (struct flock){ .l_type = (short)range->type,
@@ -240,7 +240,7 @@ struct flock to_host(const struct range *range)
 								  0 };
 }
 
-/* (FUSE has the types as Linux numbers them) */
+/* (FUSE uses Linux's numbers of the types) */
 struct range from_host(const struct flock *host)
 {
 	const uint64_t first = (uint64_t)host->l_start;
@@ -254,7 +254,7 @@ int lock_host(int fd, const struct range *range, bool waits)
 	struct flock host = to_host(range);
 	const int error = failed(fcntl(fd, waits ? F_OFD_SETLKW : F_OFD_SETLK, &host));
 
-	/* (POSIX lets fcntl(2) say either of the two) */
+	/* (POSIX allows both errors for fcntl(2)) */
 	return error == EACCES ? EAGAIN : error;
 }
 
@@ -273,7 +273,7 @@ static void unlock_host(int fd)
 	lock_host(fd, &none, false);
 }
 
-/* Interrupts those that wait by this holder, so that they call the host again. */
+/* Interrupts the threads that wait by this holder, so that they call the host again. */
 static void kick_waiters_of(struct locks *all, const struct holder *h)
 {
 	pthread_mutex_lock(&all->lock);
@@ -283,8 +283,8 @@ static void kick_waiters_of(struct locks *all, const struct holder *h)
 	pthread_mutex_unlock(&all->lock);
 }
 
-/* Moves a holder's locks, which are for reading, to another description of the file, and then the holder's descriptor to
- * that. In between both have them, which is no conflict. 0, or ENOLCK: nothing has changed. */
+/* Moves a holder's read locks to another open file description, and then its descriptor. In between both have the
+ * locks, which does not conflict. Returns 0, or ENOLCK if nothing has changed. */
 static int move_to(struct holder *h, int fd)
 {
 	const int before = fcntl(h->fd, F_DUPFD_CLOEXEC, 0);
@@ -294,7 +294,7 @@ static int move_to(struct holder *h, int fd)
 		error = lock_host(fd, &h->ranges[i], false);
 	if (!error && dup3(fd, h->fd, O_CLOEXEC) < 0)
 		error = ENOLCK;
-	/* (a thread that still waits by the description of before keeps it open, and would keep its locks) */
+	/* (a thread that still waits with the old descriptor keeps it open, and would keep its locks) */
 	if (!error)
 		unlock_host(before);
 	if (before >= 0)
@@ -302,8 +302,8 @@ static int move_to(struct holder *h, int fd)
 	return error ? ENOLCK : 0;
 }
 
-/* Opens a holder's file again for writing, which a lock that excludes others requires. The caller has its turn. (A thread
- * that waits is interrupted: the call that it makes then is by the new description.) */
+/* Opens a holder's file again for writing, which an exclusive lock requires. The caller must have its turn. (A
+ * waiting thread is interrupted, and then waits with the new descriptor.) */
 static int make_writable(struct locks *all, struct holder *h)
 {
 	int fd, error;
@@ -376,7 +376,7 @@ void holder_drop(struct locks *all, struct holder *h)
 bool unlock_closed(const struct call *call)
 {
 	const uint64_t owner = call->asked->lock_owner;
-	/* (a client that names no owners has 0 for all) */
+	/* (a client that does not send owners uses 0 for all) */
 	struct open_file *file = owner ? file_with_flock(&call->all->nodes, call->file, owner) : NULL;
 	bool was_locked;
 

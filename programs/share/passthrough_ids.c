@@ -23,7 +23,7 @@ static const char *add(struct id_rules *all, const struct id_rule *rule)
 {
 	struct id_rule *more;
 
-	/* (the last id of 32 bits is that of no one: to chown(2) it means that the id stays) */
+	/* (the largest number of 32 bits is not an id: in chown(2) it means that the id does not change) */
 	if ((uint64_t)rule->from + rule->count > UINT32_MAX ||
 	    (rule->how == IDS_SHIFTED && (uint64_t)rule->to + rule->count > UINT32_MAX) ||
 	    (rule->how == IDS_SQUASHED && rule->to == UINT32_MAX))
@@ -66,8 +66,8 @@ static int read_numbers(const char *text, char sign, uint32_t number[3])
 	}
 }
 
-/* The types of rules: which way they go, and how; and how many numbers follow. FROM is the client's id
- * but for the host's own, where it is the host's. */
+/* The types of rules: their directions, their kind, and how many numbers follow. FROM is the client's id, except
+ * for `host` and `squash-host`. */
 static const struct type {
 	const char *name;
 	bool of_client, of_host;
@@ -98,7 +98,7 @@ const char *ids_add(struct ids *ids, const char *text)
 	/* It has only FROM and COUNT. */
 	if (type->how == IDS_FORBIDDEN)
 		return add(&ids->to_host, &(struct id_rule){ number[0], number[1], 0, IDS_FORBIDDEN });
-	/* (a squashing rule makes of COUNT ids the one id TO) */
+	/* (a squash rule maps COUNT ids to the one id TO) */
 	if (type->of_client)
 		why = add(&ids->to_host, &(struct id_rule){ number[0], number[2], number[1], type->how });
 	/* A map applies in both directions: its second number is the host's id, and the first the client's. */
@@ -110,13 +110,13 @@ const char *ids_add(struct ids *ids, const char *text)
 	return why;
 }
 
-/* (--posix-acl does not go with them, whose lists have ids too) */
+/* (--posix-acl requires that there are none, because access control lists contain ids too) */
 bool ids_are_translated(const struct ids *ids)
 {
 	return ids->to_host.count || ids->to_client.count;
 }
 
-/* The rule of an id; NULL: it stays as it is. There are few of them. */
+/* Returns the rule of an id, or NULL if it stays the same. The list is short. */
 static const struct id_rule *find(const struct id_rules *all, uint32_t id)
 {
 	for (size_t i = 0; i < all->count; i++)
@@ -133,7 +133,7 @@ static uint32_t apply(const struct id_rule *rule, uint32_t id)
 	return rule->how == IDS_SHIFTED ? rule->to + (id - rule->from) : rule->to;
 }
 
-/* EPERM fails the call: by a forbidden id nothing is made, and nothing gets it as its owner. */
+/* EPERM fails the call, so no file is created with a forbidden id, or given to one. */
 int ids_to_host(const struct ids *ids, uint32_t id, uint32_t *host)
 {
 	const struct id_rule *rule = find(&ids->to_host, id);

@@ -35,8 +35,7 @@ static int move_to(struct open_file *file, uint64_t offset)
 		return 0;
 	if (offset > INT64_MAX)
 		return EINVAL;
-	/* (an offset that the client made up is the host's to refuse, or to take for some other place
-	 * in the same directory) */
+	/* (the host refuses an invalid offset, or uses it for another position in the same directory) */
 	if (lseek(file->counted.fd, (off_t)offset, SEEK_SET) < 0)
 		return errno;
 	file->at = file->end = 0;
@@ -174,7 +173,7 @@ static int list(const struct call *call)
 	bool entries;
 
 	clear_entries(w);
-	/* Names are copied, since the buffer changes; of each the record is longer than the name. */
+	/* Names are copied, because the buffer changes; each record in the reply is longer than its name. */
 	if (!error && !grow(&w->names, &w->names_size, space.room))
 		error = ENOMEM;
 	/* The end of the listing is returned once to a client that continues to read. */
@@ -263,7 +262,7 @@ int lose_capability(const struct call *call, int fd)
 	return error == ENODATA || error == EOPNOTSUPP ? 0 : error;
 }
 
-/* If it fails, so does the call that made the file, which is removed: none stays that lacks its label. */
+/* If it fails, the call fails too and removes the file, so that no file without its label remains. */
 int label(const struct call *call, int fd)
 {
 	const nizwarf_call *asked = call->asked;
@@ -286,8 +285,8 @@ int set_xattr(const struct call *call)
 	if (error)
 		return error;
 	lose_fsetid(call);
-	/* (the path leads to the node itself: the process is in /proc/self/fd. A link there is
-	 * followed once, so of a symbolic link that is the node it is the link's own attribute.) */
+	/* (the path leads to the node itself, because the process is in /proc/self/fd. A link there is followed
+	 * once, so for a symbolic link this is the link's own attribute.) */
 	error = failed(setxattr(name_fd(call->node.fd).bytes, name, call->request + asked->data.at,
 				asked->data.len, (int)asked->flags));
 	regain_fsetid(call);

@@ -26,14 +26,15 @@
 #include "passthrough_state.h"
 
 enum { MOST_MOUNTS = 1024, FIRST_ENTRIES = 256 };
-/* Options of INIT that the library agrees on by itself, besides FUSE_SUBMOUNTS. */
+/* Options of INIT that the library negotiates itself, besides FUSE_SUBMOUNTS. */
 #define OF_LIBRARY (FUSE_HAS_IOCTL_DIR | FUSE_INIT_EXT | TRANSPORT_ALLOW_IDMAP)
-/* How many of the files that are lost are named on standard error. */
+/* How many lost files are printed on standard error. */
 enum { MOST_TOLD = 20 };
-/* How many handles may be wrong, as long as the server runs, before files without a name are not opened any more. */
+/* How many handles may be wrong while the server runs, before files without a name are not opened any more. */
 enum { MOST_STRAYS = 4096 };
 
-/* An entry: a node, or a directory that the client does not know, with a descriptor. Or an error, if it was not found. */
+/* An entry: a node, or a directory that the client does not know, with a descriptor; or an error, if it was not
+ * found. */
 struct entry {
 	uint64_t number;
 	int fd, error;
@@ -54,7 +55,7 @@ struct loading {
 	/* The client has not sent INIT, so it knows only the shared directory. */
 	bool has_no_session;
 	char path[PATH_MAX];
-	/* What follows the beginning of a record, and a 0. */
+	/* The rest of the current record, with a 0 at its end. */
 	size_t len;
 	unsigned char body[STATE_LONGEST + 1];
 };
@@ -73,7 +74,7 @@ static int get(struct loading *l, void *bytes, size_t len)
 	return 0;
 }
 
-/* A name, for a message. */
+/* Returns a name without control characters, for a message. It modifies the name. */
 static const char *printable(char *name)
 {
 	for (unsigned char *at = (unsigned char *)name; *at; at++)
@@ -144,7 +145,7 @@ static int load_directory(struct loading *l)
 
 	if (!state_decode_directory(l->body, l->len, &result) || result.parent >= l->count)
 		return state_refuse("invalid directory record");
-	/* (as many as passthrough_save() puts there) */
+	/* (the limit is that of passthrough_save()) */
 	if (++l->directories > (size_t)l->all->options.most_nodes + STATE_SPARE_DIRECTORIES)
 		return state_refuse("too many directory records");
 	error = fd_reserve(&l->all->nodes, 1);
@@ -266,7 +267,7 @@ static int load_root(struct loading *l, const struct state_node *result)
 	return add_entry(l, ROOT_NODE, -1, 0);
 }
 
-/* Opens and enters a node: 0, or an error. */
+/* Opens a file and restores its node. Returns 0 or an error. */
 static int restore_node(struct loading *l, const struct state_node *result)
 {
 	struct statx seen;
@@ -275,9 +276,9 @@ static int restore_node(struct loading *l, const struct state_node *result)
 
 	if (fd < 0)
 		return errno;
-	/* (the type must be that of before) */
+	/* (the type must be the same as before) */
 	error = look_at(fd, &seen) ? errno : (seen.stx_mode & S_IFMT) != result->type ? EXDEV : 0;
-	/* (it has the descriptor from then on, also if it fails) */
+	/* (node_restore() takes over the descriptor, also on error) */
 	if (!error)
 		return node_restore(&l->all->nodes, fd, &seen, result->number, result->lookups,
 				    result->is_apart);
@@ -285,7 +286,7 @@ static int restore_node(struct loading *l, const struct state_node *result)
 	return error;
 }
 
-/* A NODE. What no server sends is refused, and ends the loading. What cannot be found is lost. */
+/* A NODE. A record that no server sends ends the loading; a file that is not found is lost. */
 static int load_node(struct loading *l)
 {
 	struct state_node result;
@@ -300,7 +301,7 @@ static int load_node(struct loading *l)
 		return state_refuse("node record with an unknown directory");
 	if (l->has_no_session)
 		return state_refuse("node record of a client without a session");
-	/* (a number's lower half is below the other server's --node-limit) */
+	/* (the lower half of a number is below the other server's --node-limit) */
 	if (l->end.nodes > l->all->options.most_nodes || (uint32_t)result.number > l->all->options.most_nodes)
 		return state_refuse("the state has more files than --node-limit allows");
 	error = restore_node(l, &result);
@@ -310,10 +311,10 @@ static int load_node(struct loading *l)
 		return -1;
 	if (!error)
 		return 0;
-	/* (no other node gets this number, by which the client knows a file) */
+	/* (the client knows a file by this number, so no other node may get it) */
 	if (node_lose(&l->all->nodes, result.number))
 		return state_refuse("out of memory");
-	/* (the 0 after the body ends the name) */
+	/* (the 0 after the record ends the name) */
 	return lose(l, "node", result.number,
 		    (char *)l->body + ((const unsigned char *)result.name - l->body), error);
 }
@@ -342,7 +343,7 @@ static int open_as(struct loading *l, const struct node *node, int of, int flags
 		       fd;
 }
 
-/* Opens and enters an open file: 0, or an error. A descriptor is reserved before it is opened, as for an OPEN. */
+/* Opens a file and restores the open file. Returns 0 or an error. A descriptor is reserved first, as for an OPEN. */
 static int restore_file(struct loading *l, const struct state_file *result)
 {
 	struct nodes *nodes = &l->all->nodes;
@@ -362,7 +363,7 @@ static int restore_file(struct loading *l, const struct state_file *result)
 	return error;
 }
 
-/* A FILE, whose node came before. */
+/* A FILE, which must follow its node. */
 static int load_file(struct loading *l)
 {
 	struct state_file result;
@@ -384,7 +385,7 @@ static int load_file(struct loading *l)
 	return lose(l, "open file", result.number, no_name, error);
 }
 
-/* ---- all of it */
+/* ---- the whole state */
 
 /* Compares the end record with the records that were loaded. */
 static int load_end(struct loading *l)
@@ -402,7 +403,7 @@ static int load_end(struct loading *l)
 		       0;
 }
 
-/* Loads one record: -1, or 0; or 1, if it was the end. */
+/* Loads one record. Returns 0, or 1 if it was the end, or -1 on error. */
 static int load_record(struct loading *l)
 {
 	unsigned char begin[STATE_RECORD];
@@ -417,7 +418,7 @@ static int load_record(struct loading *l)
 	l->len = len;
 	if (get(l, l->body, len))
 		return -1;
-	/* (names and paths are the last bytes of a record) */
+	/* (names and paths are at the end of a record) */
 	l->body[len] = 0;
 	switch (kind) {
 	case STATE_MOUNT:
@@ -473,8 +474,8 @@ static int load_header(struct loading *l)
 	return check_agreed(l);
 }
 
-/* Loads all that the other server saved. What cannot be had here, as a file that went, is no failure: the
- * client sees an error where it uses that. */
+/* Loads everything that the other server saved. A file that is not found is not an error: the client gets an error
+ * when it uses it. */
 static int load_all(struct loading *l)
 {
 	int came = 0;

@@ -45,8 +45,8 @@
  * MOST_REACHED limits the search for a deadlock. */
 enum { MOST_WAITERS = 4096, STACK = 65536, KICKS = 50, TRIES = 10000, MOST_REACHED = 256 };
 
-/* Does nothing: without a handler the signal would end the process, and one that is ignored interrupts
- * no call. */
+/* Does nothing. Without a handler the signal would end the process, and an ignored signal interrupts no system
+ * call. */
 static void kicked(int number)
 {
 	(void)number;
@@ -67,8 +67,8 @@ struct locks *locks_new(struct nodes *nodes)
 	return all;
 }
 
-/* Which process of the client has a lock that the host reports, in the file of this call; 0: none has, or another owner
- * has no such. (The host reports no process for a lock of F_OFD_SETLK.) */
+/* Returns the client's process that has a lock which the host reports, in the file of this call, or 0. (The host
+ * reports no process for a lock of F_OFD_SETLK.) */
 static uint32_t pid_of(struct locks *all, const nizwarf_call *asked, const struct range *found)
 {
 	uint32_t pid = 0;
@@ -98,7 +98,7 @@ int get_lock(const struct call *call)
 	if (asked.start > range.last)
 		return EINVAL;
 	h = holder_take(call, false);
-	/* (while its descriptor is exchanged, its locks are those of another one, too) */
+	/* (while its descriptor is exchanged, its locks belong to another one too) */
 	if (h)
 		pthread_mutex_lock(&h->turn);
 	error = failed(fcntl(h ? h->fd : call->file->counted.fd, F_OFD_GETLK, &host));
@@ -138,7 +138,7 @@ static bool is_in_the_way(const struct holder *h, const struct waiter *w)
 	return false;
 }
 
-/* Adds those to a list that wait for the same owner as others: the last one of the list. */
+/* Appends the waiters of an owner to a list. Returns the last one of the list. */
 static struct waiter *reach(struct locks *all, uint64_t owner, struct waiter *last, unsigned *left)
 {
 	for (struct waiter *w = all->waiters; w && *left; w = w->next)
@@ -176,7 +176,7 @@ static bool is_deadlock(struct locks *all, struct waiter *asked)
 
 /* ---- waiting */
 
-/* Lets a millisecond pass. */
+/* Waits for a millisecond. */
 static void let_pass(void)
 {
 	const struct timespec pause = { 0, 1000000 };
@@ -184,7 +184,7 @@ static void let_pass(void)
 	nanosleep(&pause, NULL);
 }
 
-/* Adds a waiter to the list, under the lock: it can be kicked from then on. */
+/* Adds a waiter to the list, so that it gets signals. The lock must be held. */
 static void link_waiter(struct waiter *w)
 {
 	w->at = &w->of->waiters;
@@ -371,7 +371,7 @@ void locks_interrupt(struct locks *all, unsigned client, uint64_t unique)
 
 /* ---- calls */
 
-/* A lock of flock(2), by the descriptor of the client's open file. */
+/* A flock(2) lock, by the descriptor of the client's open file. */
 static int set_flock(const struct call *call, uint32_t type)
 {
 	const uint64_t owner = call->asked->lock_owner;
@@ -382,8 +382,8 @@ static int set_flock(const struct call *call, uint32_t type)
 	return error == EAGAIN && call->asked->opcode == NIZWARF_SETLKW ? start_waiter(call, NULL) : error;
 }
 
-/* A lock of fcntl(2), by the holder of its owner. Like Linux, it requires that the file is open for writing if the lock
- * excludes others: one that may only read must not keep out those that write. */
+/* A fcntl(2) lock, by the holder of its owner. Like Linux, it requires that the file is open for writing for an
+ * exclusive lock, because a client that may only read must not lock out writers. */
 static int set_range(const struct call *call, const nizwarf_lock *lock)
 {
 	struct locks *all = call->all->locks;
@@ -426,8 +426,8 @@ int set_lock(const struct call *call)
 	return lock.start <= range_of(&lock).last ? set_range(call, &lock) : EINVAL;
 }
 
-/* The next holder with locks in the file of this call that is its owner's, or with `by_handle` was locked last by its open
- * file. The lock is held. */
+/* Returns the next holder with locks in the file of this call that has its owner, or with `by_handle`, that was
+ * last locked by its open file. The lock must be held. */
 static struct holder *find_locked(const struct call *call, bool by_handle)
 {
 	const nizwarf_call *asked = call->asked;
@@ -470,7 +470,7 @@ void locks_close(const struct call *call)
 		drop_each(call, true);
 }
 
-/* It kicks once: the transport calls again while something is kept, since a kick may be missed. */
+/* It signals once: the transport calls it again while a request is kept, because a signal may be missed. */
 void locks_recall(struct locks *all)
 {
 	bool is_left;
@@ -524,7 +524,7 @@ bool locks_are_held(struct locks *all)
 	bool are_held;
 
 	pthread_mutex_lock(&all->lock);
-	/* (one that still waits may be granted) */
+	/* (a lock of a waiter may be granted) */
 	are_held = all->waiters;
 	for (unsigned i = 0; i < CHAINS && !are_held; i++)
 		for (const struct holder *h = all->chains[i]; h && !are_held; h = h->next)

@@ -1,11 +1,10 @@
-/* Mounts of the host, and handles of a passthrough: passthrough_mounts.h.
+/* Mounts of the host, and handles of a passthrough: passthrough_mounts.h. `mounts_lock` protects the list,
+ * `handles` and `fd` of each mount, and the change of `users` to 0. It is never held together with the lock of the
+ * nodes. Nothing is opened under it, neither a handle nor the descriptor of a mount, which stays open as long as a
+ * node has a handle.
  *
- * `mounts_lock` guards the list, `handles` and `fd` of each mount, and that `users` reaches 0. It is
- * never taken under the lock of the nodes, and none is taken under it. Nothing is opened under it, neither a
- * handle nor that by which a mount's handles are: as long as a node has one its mount's descriptor stays.
- *
- * Somebody may want to unmount what nodes are on. Their descriptors keep it, or that by which their
- * handles are opened: umount(8) finds it busy as long as one of them is known. */
+ * Descriptors of nodes, or those by which their handles are opened, keep a mount busy: umount(8) fails as long as
+ * the client knows one of its files. */
 #define _GNU_SOURCE
 #include <errno.h>
 #include <stdlib.h>
@@ -44,7 +43,7 @@ struct host_mount *mount_take(struct nodes *all, const struct found *found, cons
 	mount = all->mounts;
 	while (mount && (mount->id != mount_of(seen) || mount->device != device_of(seen)))
 		mount = mount->next;
-	/* (it is freed by mount_put(), with its last node) */
+	/* (mount_put() frees it with its last node) */
 	if (!mount && (mount = calloc(1, sizeof(*mount)))) {
 		mount->of = all;
 		mount->device = device_of(seen);
@@ -84,8 +83,7 @@ void mount_put(struct host_mount *mount)
 
 /* ---- handles */
 
-/* A file system may have no handles (EOPNOTSUPP), as some that Linux has over others or over a
- * network. */
+/* A file system may not support handles (EOPNOTSUPP), such as some stacked or network file systems. */
 bool handle_by(int fd, union handle_room *room)
 {
 	int id;
@@ -123,7 +121,7 @@ void mount_let_go(struct host_mount *mount)
 	int fd = -1;
 
 	pthread_mutex_lock(&mount->of->mounts_lock);
-	/* With its last handle it is closed, so that the host can unmount it. */
+	/* With the last handle it is closed, so that the host can unmount it. */
 	if (!--mount->handles) {
 		fd = mount->fd;
 		mount->fd = -1;

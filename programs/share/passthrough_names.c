@@ -165,10 +165,10 @@ int link_node(const struct call *call)
 
 	if (error)
 		return error;
-	/* (that leads to the node itself, also where it is a symbolic link) */
+	/* (this leads to the node itself, even if it is a symbolic link) */
 	error = failed(
 		linkat(nodes->proc, name_fd(call->node.fd).bytes, call->other.fd, name, AT_SYMLINK_FOLLOW));
-	/* (the attributes are those after it: there is a link more) */
+	/* (the attributes are those after the call, with one more link) */
 	if (!error && look_at(call->node.fd, &seen))
 		error = unmake(call->other.fd, name, &made, errno);
 	if (error)

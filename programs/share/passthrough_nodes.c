@@ -181,13 +181,13 @@ static int reach(struct table *table, uint32_t at)
 		table->slots = more;
 		table->size = (uint32_t)size;
 	}
-	/* (those between are free, and not in the list of free ones until settle()) */
+	/* (the slots in between are free, but not in the list of free ones until settle()) */
 	for (; table->used <= at; table->used++)
 		table->slots[table->used] = 1;
 	return 0;
 }
 
-/* Notes the upper half of another server's number, under the lock. */
+/* Notes the upper half of another server's number. The lock must be held. */
 static void note_uses(struct table *table, uint64_t number)
 {
 	const uint32_t uses = (uint32_t)(number >> 32);
@@ -250,7 +250,7 @@ static void settle(struct table *table)
 
 /* ---- descriptors */
 
-/* Adds first and looks then: so two threads together don't take more than there is. */
+/* It increments before it checks, so that two threads together do not exceed the limit. */
 int fd_reserve(struct nodes *all, unsigned count)
 {
 	if (atomic_fetch_add(&all->kept, count) + count <= all->most_kept)
@@ -305,7 +305,7 @@ static void node_let_go(struct nodes *all, int fd)
 
 /* ---- nodes */
 
-/* The handle of a node, or NULL; and the name by which it was found. */
+/* Returns the handle of a node, or NULL; and the name by which it was found. */
 static struct file_handle *handle_in(const struct node *node)
 {
 	return node->handle_size ? (struct file_handle *)(uintptr_t)node->rest : NULL;
@@ -345,15 +345,15 @@ struct fd_name name_fd(int fd)
 
 int open_again(const struct nodes *all, int fd, int flags)
 {
-	/* (the name in /proc/self/fd is a link, which must be followed; the file itself was not reached
-	 * by one) */
+	/* (the name in /proc/self/fd is a link that must be followed; the file itself was opened without following
+	 * links) */
 	return openat(all->proc, name_fd(fd).bytes, (flags & ~O_NOFOLLOW) | O_CLOEXEC);
 }
 
 int node_hold(struct nodes *all, uint64_t number, struct grip *grip)
 {
 	grip->node = (struct node *)get(&all->nodes, number);
-	/* (-1 too where the node has a handle: node_get() opens one) */
+	/* (also -1 if the node has a handle, which node_get() opens) */
 	grip->fd = grip->node ? grip->node->counted.fd : -1;
 	grip->own = -1;
 	return grip->node ? 0 : ESTALE;
@@ -369,7 +369,7 @@ int node_get(struct nodes *all, uint64_t number, struct grip *grip)
 	if (grip->fd >= 0)
 		return 0;
 	error = errno;
-	/* (its last name may have been removed meanwhile, and the file kept: node_keep()) */
+	/* (its last name may have been removed meanwhile, and node_keep() has opened it) */
 	grip->fd = grip->node->counted.fd;
 	if (grip->fd >= 0)
 		return 0;
@@ -434,7 +434,7 @@ static bool some_handle(struct nodes *all, const struct statx *seen)
 {
 	bool is_some;
 
-	/* (where files are never held so) */
+	/* (if handles are disabled) */
 	if (all->handles_from == UINT_MAX)
 		return false;
 	pthread_rwlock_rdlock(&all->nodes.lock);
@@ -491,7 +491,7 @@ struct node *node_keep(struct nodes *all, int directory, const char *name)
 	struct statx seen;
 	int fd;
 
-	/* (most files are not known, so that nothing is opened for them) */
+	/* (most files are not known, so nothing is opened for them) */
 	if (all->handles_from == UINT_MAX ||
 	    statx(directory, name, AT_SYMLINK_NOFOLLOW | AT_NO_AUTOMOUNT, WHAT, &seen) ||
 	    !is_last_name(&seen) || !some_handle(all, &seen) || fd_reserve(all, 1))
@@ -544,14 +544,14 @@ int node_look_up(struct nodes *all, unsigned client, struct node *node)
 	return is_there ? 0 : ESTALE;
 }
 
-/* Twice as many chains, under the lock, if there is memory. */
+/* Doubles the number of chains, if there is memory. The lock must be held. */
 static void grow_chains(struct nodes *all)
 {
 	const uint32_t count = all->chain_count, doubled = 2 * count;
 	struct node **old = all->chains, **more;
 
 	more = count < UINT32_MAX / 4 ? calloc(doubled, sizeof(struct node *)) : NULL;
-	/* (longer chains are slower, and still right) */
+	/* (longer chains are only slower) */
 	if (!more)
 		return;
 	all->chains = more;
@@ -570,7 +570,7 @@ static void grow_chains(struct nodes *all)
 	free(old);
 }
 
-/* Puts a node into its chain, under the lock. */
+/* Adds a node to its chain. The lock must be held. */
 static void enchain(struct nodes *all, struct node *node)
 {
 	struct node **chain;
@@ -652,7 +652,7 @@ uint64_t node_find_opened(struct nodes *all, unsigned client, int fd, const stru
 	return number ? number : add_opened(all, client, fd, seen, NULL);
 }
 
-/* add_lookup() of a node that holds its file. Another worker may have entered that by a handle meanwhile. */
+/* add_lookup() for a node with a descriptor. Another worker may have added the file with a handle meanwhile. */
 static uint64_t add_made(struct nodes *all, unsigned client, const struct statx *seen, struct node **made)
 {
 	const int fd = (*made)->counted.fd;
@@ -661,7 +661,7 @@ static uint64_t add_made(struct nodes *all, unsigned client, const struct statx 
 	return !number && *made && fd >= 0 ? add_opened(all, client, fd, seen, made) : number;
 }
 
-/* The size of the name by which a file may be opened, if it may be. */
+/* Returns the size of the name by which a file may be opened, or 0. */
 static size_t name_size(const struct nodes *all, const struct found *found, const struct host_mount *on,
 			const struct statx *seen)
 {
@@ -671,7 +671,7 @@ static size_t name_size(const struct nodes *all, const struct found *found, cons
 		       0;
 }
 
-/* Has a node watched that holds its file, if it can be. */
+/* Watches the file of a node with a descriptor, if possible. */
 static void watch_node(struct nodes *all, struct node *node)
 {
 	if (all->watch && all->watched_device && node->on->device == all->watched_device)
@@ -726,7 +726,7 @@ static int make(struct nodes *all, const struct found *found, int fd, const stru
 		memcpy(node->rest + of_handle, found->name, of_name);
 	}
 	if (is_held)
-		/* (a handle stays valid without it: so a node that has one keeps no descriptor) */
+		/* (a handle stays valid without the descriptor, so a node that has one keeps none) */
 		fd_let_go(all, fd);
 	else
 		watch_node(all, node);
@@ -735,7 +735,7 @@ static int make(struct nodes *all, const struct found *found, int fd, const stru
 
 int open_by_name(struct nodes *all, struct node *node, int flags)
 {
-	/* (no pipe waits, no device is opened, and nothing on which another one is mounted) */
+	/* (no pipe blocks, no device is opened, and no mount point) */
 	struct open_how how = { .flags = (uint64_t)(flags | O_NOFOLLOW | O_NONBLOCK | O_NOCTTY | O_CLOEXEC),
 				.resolve = RESOLVE_NO_XDEV | RESOLVE_NO_SYMLINKS };
 	struct grip directory;
@@ -834,7 +834,7 @@ int node_restore(struct nodes *all, int fd, const struct statx *seen, uint64_t n
 	/* (make() compared its mount with the root's, and not with that of its directory) */
 	made->is_apart = is_apart;
 	pthread_rwlock_wrlock(&all->nodes.lock);
-	/* (somebody may have given both names to one file since the state was saved: then the second one is lost) */
+	/* (if both names lead to one file since the state was saved, the second node is lost) */
 	error = known(all, seen, handle) ? EXDEV : place_in(&all->nodes, &made->counted, number);
 	if (!error)
 		enchain(all, made);
@@ -870,7 +870,7 @@ void node_forget(struct nodes *all, unsigned client, uint64_t number, uint64_t c
 		detach(all, node);
 	}
 	pthread_rwlock_unlock(&all->nodes.lock);
-	/* (the host is not called under the lock) */
+	/* (no system call is made under the lock) */
 	free_node(node);
 }
 
@@ -893,7 +893,7 @@ static struct node *take_nodes(struct nodes *all, unsigned client, uint32_t *cou
 
 	pthread_rwlock_wrlock(&all->nodes.lock);
 	*count = is_client(all, client) ? all->nodes.count : 0;
-	/* (one is the root, which stays) */
+	/* (the root stays) */
 	for (uint32_t i = ROOT_NODE + 1; *count && i < all->nodes.used && all->nodes.count > 1; i++) {
 		struct node *node = (struct node *)thing_in(&all->nodes, i);
 
@@ -907,7 +907,7 @@ static struct node *take_nodes(struct nodes *all, unsigned client, uint32_t *cou
 	return gone;
 }
 
-/* The same of open files. */
+/* The same for open files. */
 static struct open_file *take_files(struct nodes *all, unsigned client)
 {
 	struct open_file *gone = NULL;
@@ -1032,7 +1032,7 @@ static unsigned most_to_keep(unsigned others)
 
 	if (getrlimit(RLIMIT_NOFILE, &limit) || limit.rlim_cur > INT_MAX)
 		return INT_MAX;
-	/* (soft: share.c has raised it before, as far as it may) */
+	/* (the soft limit, which share.c has raised as far as possible) */
 	may_be = (unsigned)limit.rlim_cur;
 	return may_be / 4 + others < may_be ? may_be - others : may_be / 4;
 }
@@ -1040,7 +1040,7 @@ static unsigned most_to_keep(unsigned others)
 int nodes_begin(struct nodes *all, int root, int proc, enum file_handles handles, bool no_devices,
 		unsigned most, unsigned others)
 {
-	/* (the root is found in no directory, and by no name) */
+	/* (the root has no directory and no name) */
 	const struct found nowhere = { -1, NULL, NULL };
 	struct statx seen;
 	uint64_t number;
@@ -1054,7 +1054,7 @@ int nodes_begin(struct nodes *all, int root, int proc, enum file_handles handles
 	all->chain_count = FIRST_CHAINS;
 	if (!all->chains || statx(root, "", AT_EMPTY_PATH, STATX_BASIC_STATS | STATX_MNT_ID, &seen))
 		return -1;
-	/* The root stays open, whatever the others are. */
+	/* The root always has a descriptor. */
 	all->handles_from = UINT_MAX;
 	all->most_kept = most_to_keep(others);
 	all->most_nodes = most;
@@ -1108,14 +1108,14 @@ uint64_t file_add(struct nodes *all, unsigned client, uint64_t node, int fd, int
 
 	if (file) {
 		pthread_rwlock_wrlock(&all->files.lock);
-		/* (once the lock is given up a client that guesses the number may have released it) */
+		/* (once the lock is released, a client that guesses the number may have released the file) */
 		if (!is_client(all, client))
 			number = OF_NOBODY;
 		else if (add(&all->files, &file->counted))
 			number = file->counted.number;
 		pthread_rwlock_unlock(&all->files.lock);
 	}
-	/* (without memory its descriptor stays the caller's) */
+	/* (without a number the caller keeps the descriptor) */
 	if (!number)
 		free(file);
 	else if (number == OF_NOBODY)

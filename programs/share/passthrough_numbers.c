@@ -7,8 +7,8 @@
 #include <stdlib.h>
 #include "passthrough_numbers.h"
 
-/* An inode has 64 bits: the lower LOW_BITS stay as they are, and the upper ones are replaced, for which
- * there are PREFIXES values. HEADS chains lead to those that are known. */
+/* An inode number has 64 bits: the lower LOW_BITS are kept, and the upper ones are replaced by one of PREFIXES
+ * values. HEADS chains contain the known replacements. */
 enum { LOW_BITS = 48, PREFIXES = 65536, HEADS = 1024 };
 
 /* A device, upper bits of its inode numbers, and their replacement. */
@@ -28,7 +28,7 @@ struct numbers {
 	struct prefix known[PREFIXES];
 };
 
-/* Mixes all bits, so that numbers which differ in one have nothing in common (splitmix64's last step). */
+/* Hashes a number, so that numbers which differ in one bit have unrelated results (the last step of splitmix64). */
 static uint64_t mix(uint64_t number)
 {
 	number = (number ^ number >> 30) * UINT64_C(0xbf58476d1ce4e5b9);
@@ -73,17 +73,17 @@ static int find(const struct numbers *all, uint64_t device, uint16_t high)
 	return at ? all->known[at - 1].result : -1;
 }
 
-/* Finds upper bits for these, under the lock. -1: all are taken. */
+/* Adds a replacement of these upper bits, or returns -1 if all are used. The lock must be held. */
 static int add(struct numbers *all, uint64_t device, uint16_t high)
 {
 	uint32_t *head = &all->heads[mix_both(device, high) % HEADS];
-	/* (the uppermost one makes a number negative to programs that take it for a signed one) */
+	/* (with the uppermost bit a number would be negative for programs that use signed numbers) */
 	uint16_t result = device == all->own ? high : (uint16_t)(mix_both(device, high) >> LOW_BITS & 0x7fff);
 
 	/* One of them belongs to the directory's own file system. */
 	if (all->count >= PREFIXES - 1)
 		return -1;
-	/* (it ends: fewer than PREFIXES are taken) */
+	/* (it ends, because fewer than PREFIXES are used) */
 	while (all->is_taken[result])
 		result++;
 	all->is_taken[result] = true;

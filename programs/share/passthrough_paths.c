@@ -21,14 +21,14 @@ int paths_begin(struct paths *paths, struct nodes *nodes)
 	paths->nodes = nodes;
 	if (node_get(nodes, ROOT_NODE, &root))
 		return -1;
-	/* (the root stays, and its descriptor) */
+	/* (the root node stays, and so does its descriptor) */
 	paths->root = root.fd;
 	node_put(&root);
-	/* (the path of one that was deleted ends with " (deleted)": then nothing is found below it) */
+	/* (the path of a deleted directory ends with " (deleted)", and nothing is found below it) */
 	got = readlinkat(nodes->proc, name_fd(paths->root).bytes, paths->folder, sizeof(paths->folder));
 	if (got <= 0 || (size_t)got >= sizeof(paths->folder) || *paths->folder != '/')
 		return -1;
-	/* (below / a path begins after it) */
+	/* (below / a path begins after the slash) */
 	paths->len = got == 1 ? 0 : (size_t)got;
 	return 0;
 }
@@ -85,7 +85,8 @@ ssize_t find_path(const struct paths *paths, int fd, const struct statx *seen, c
 	len -= (ssize_t)paths->len + 1;
 	memcpy(path, result + paths->len + 1, (size_t)len);
 	path[len] = 0;
-	/* (A deleted file is shown by a name that is not there, and one that was moved meanwhile by its old name. Symbolic
-	 * links on the way are followed, which does no harm: the file is only looked at, and open_below() follows none.) */
+	/* (/proc shows a deleted file with a name that does not exist, and a file that was moved meanwhile with
+	 * its old name. Symbolic links on the way are followed, which is harmless, because the file is only
+	 * checked, and open_below() follows none.) */
 	return is_in(paths->root, path, seen) ? len : -1;
 }

@@ -45,17 +45,17 @@ struct saving {
 	uint32_t entries;
 	uint32_t *entry_of;
 	size_t entry_of_count;
-	/* The DIRECTORY entries: a hash table with open addressing, of a size that is a power of two or 0. */
+	/* The DIRECTORY entries: a hash table with open addressing, whose size is 0 or a power of two. */
 	struct ancestor *ancestors;
 	size_t ancestor_count, ancestor_size, most_ancestors;
 	bool is_full;
-	/* By whose handles nodes go, and the path of a directory there. */
+	/* A mount whose handles are saved, and the path of a directory on it. */
 	struct saved_mount {
 		const struct host_mount *mount;
 		char *path;
 	} * mounts;
 	size_t mount_count;
-	/* Nodes of which no path was found so far. */
+	/* Nodes whose path is not known yet. */
 	struct sought *sought;
 	size_t sought_count, sought_size, lost;
 	bool has_failed;
@@ -68,7 +68,7 @@ struct saving {
 	unsigned char record[STATE_RECORD + STATE_LONGEST];
 };
 
-/* Where a file is: NOWHERE and "" if that is not known. */
+/* The place of a file: NOWHERE and "" if it is not known. */
 struct place {
 	uint32_t parent;
 	const char *name;
@@ -76,7 +76,7 @@ struct place {
 
 static const struct place nowhere = { NOWHERE, "" };
 
-/* A place, if its name is one that a state may have. */
+/* Returns a place, if a state may contain its name. */
 static struct place place_in(uint32_t parent, const char *name)
 {
 	return parent != NOWHERE && strlen(name) <= STATE_NAME_MAX ? (struct place){ parent, name } : nowhere;
@@ -94,7 +94,7 @@ static int put(struct saving *s, const void *bytes, size_t len)
 	return state_refuse("cannot send the state: %s", strerror(errno));
 }
 
-/* Puts the record whose bytes were encoded at `s->record + STATE_RECORD`. */
+/* Writes the record whose rest was encoded at `s->record + STATE_RECORD`. */
 static int put_record(struct saving *s, uint32_t kind, size_t len)
 {
 	state_encode_record(kind, (uint32_t)len, s->record);
@@ -121,7 +121,7 @@ static uint32_t mount_number(const struct saving *s, const struct host_mount *mo
 	return MOST_MOUNTS;
 }
 
-/* The entry of a node; NOWHERE: it has none yet. */
+/* Returns the entry of a node, or NOWHERE if it has none yet. */
 static uint32_t entry_of(const struct saving *s, uint64_t number)
 {
 	const uint32_t slot = (uint32_t)number;
@@ -129,7 +129,7 @@ static uint32_t entry_of(const struct saving *s, uint64_t number)
 	return slot < s->entry_of_count && s->entry_of[slot] ? s->entry_of[slot] - 1 : NOWHERE;
 }
 
-/* Notes the next entry as that of a node. */
+/* Assigns the next entry to a node. */
 static int note_entry(struct saving *s, uint64_t number)
 {
 	const uint32_t slot = (uint32_t)number;
@@ -165,7 +165,7 @@ static int put_node(struct saving *s, const struct node *node, int fd, struct pl
 	union handle_room room;
 	bool has_handle = has_handles(s) && fd >= 0 && result.mount < MOST_MOUNTS && handle_by(fd, &room);
 
-	/* By paths a handle without a place is of no use, and neither is a place without the handle that verifies it. */
+	/* With paths, a handle is useless without a place, and a place without the handle that verifies it. */
 	has_handle &= by_handles || is_root || place.parent != NOWHERE;
 	if (has_handle) {
 		result.handle_type = room.handle.handle_type;
@@ -186,7 +186,7 @@ static int put_node(struct saving *s, const struct node *node, int fd, struct pl
 
 /* ---- directories that the client does not know */
 
-/* The place of a directory in the table: its own, or a free one. */
+/* Returns the place of a directory in the table, or a free one. */
 static struct ancestor *ancestor_at(const struct saving *s, const struct file_id *id)
 {
 	size_t at = (id->inode + id->device * 31) * UINT64_C(0x9e3779b97f4a7c15) >> 20;
@@ -247,7 +247,7 @@ static int put_directory(struct saving *s, struct place place, const struct file
 	return 0;
 }
 
-/* The entry of a directory that is open; NOWHERE: it has none yet. */
+/* Returns the entry of an open directory, or NOWHERE if it has none yet. */
 static uint32_t entry_known(const struct saving *s, int fd, const struct statx *seen)
 {
 	const uint64_t number = node_number(&s->all->nodes, fd, seen);
@@ -260,7 +260,7 @@ static uint32_t entry_known(const struct saving *s, int fd, const struct statx *
 	return entry == ROOT_ENTRY ? NOWHERE : entry;
 }
 
-/* Makes an entry of a directory that is open and has none yet. */
+/* Creates an entry of an open directory that has none yet. */
 static int enter_directory(struct saving *s, int fd, const struct statx *seen, struct place place,
 			   uint32_t *entry)
 {
@@ -279,7 +279,7 @@ static int enter_directory(struct saving *s, int fd, const struct statx *seen, s
 
 /* ---- places of nodes */
 
-/* Opens the directory of the first `len` bytes of `s->path`, and looks at it. -1: it is not there. */
+/* Opens the directory of the first `len` bytes of `s->path`, and gets its attributes. Returns -1 if that fails. */
 static int open_part(struct saving *s, size_t len, struct statx *seen)
 {
 	const char after = s->path[len];
@@ -295,8 +295,8 @@ static int open_part(struct saving *s, size_t len, struct statx *seen)
 	return fd;
 }
 
-/* The entry of the directory of the first `len` bytes of `s->path`, by that of its parent if it has none yet. NOWHERE: it
- * has none. */
+/* Finds the entry of the directory of the first `len` bytes of `s->path`, or creates it below that of its parent.
+ * NOWHERE: it has none. */
 static int enter_part(struct saving *s, size_t len, uint32_t parent, uint32_t *entry)
 {
 	const char after = s->path[len];
@@ -333,7 +333,7 @@ static int enter_path(struct saving *s, size_t len, uint32_t *entry)
 		failed = enter_part(s, at, NOWHERE, entry);
 		if (*entry != NOWHERE)
 			break;
-		/* (where no directory gets an entry any more, all of the way up would be for nothing, for each node) */
+		/* (if no directory gets an entry any more, going up further would be useless) */
 		if (s->is_full)
 			return failed;
 		while (at && s->path[--at] != '/')
@@ -355,7 +355,7 @@ static int enter_path(struct saving *s, size_t len, uint32_t *entry)
 	return failed;
 }
 
-/* Finds the place of a node by the path that Linux knows of it. */
+/* Finds the place of a node by the path that Linux knows. */
 static int find_place(struct saving *s, const struct grip *grip, const struct statx *seen,
 		      struct place *place)
 {
@@ -372,8 +372,8 @@ static int find_place(struct saving *s, const struct grip *grip, const struct st
 	return failed;
 }
 
-/* Finds the place of a node by the directory and the name by which the client looked it up first, if these are known. This
- * helps where Linux knows no path, as of a file that is opened by its handle. */
+/* Finds the place of a node by the directory and name by which the client first looked it up, if they are known.
+ * This helps if Linux knows no path, as for a file that is opened by its handle. */
 static int find_first_place(struct saving *s, const struct node *node, const struct statx *seen,
 			    struct place *place)
 {
@@ -388,7 +388,7 @@ static int find_first_place(struct saving *s, const struct node *node, const str
 		return 0;
 	entry = entry_of(s, number);
 	if (is_in(directory.fd, name, seen)) {
-		/* (a directory whose own path Linux does not know is left for the search) */
+		/* (a directory whose own path Linux does not know is left to the search) */
 		if (entry == NOWHERE && !look_at(directory.fd, &there) &&
 		    find_path(&s->paths, directory.fd, &there, s->path) > 0)
 			failed = enter_path(s, strlen(s->path), &entry);
@@ -401,7 +401,7 @@ static int find_first_place(struct saving *s, const struct node *node, const str
 
 /* ---- nodes */
 
-/* Adds a node to those that are sought. */
+/* Adds a node to those that the search must find. */
 static int seek_node(struct saving *s, uint64_t number, const struct statx *seen)
 {
 	if (s->sought_count == s->sought_size) {
@@ -413,7 +413,7 @@ static int seek_node(struct saving *s, uint64_t number, const struct statx *seen
 		s->sought = more;
 		s->sought_size = size;
 	}
-	/* (Linux shows STATX_ATTR_MOUNT_ROOT from 5.8 on. Before, such a file is not found.) */
+	/* (Linux shows STATX_ATTR_MOUNT_ROOT since 5.8. Before, such a file is not found.) */
 	s->sought[s->sought_count++] =
 		(struct sought){ .number = number,
 				 .id = id_of(seen),
@@ -422,13 +422,13 @@ static int seek_node(struct saving *s, uint64_t number, const struct statx *seen
 	return 0;
 }
 
-/* Saves a node which a descriptor is of, or leaves it for the search. A file that has no name any more is not sought. */
+/* Saves a node that has a descriptor, or leaves it to the search. A file without a name is not searched. */
 static int save_open_node(struct saving *s, const struct grip *grip)
 {
 	struct place place = nowhere;
 	struct statx seen;
 
-	/* (a file system over a network may have lost it) */
+	/* (a network file system may have lost it) */
 	if (look_at(grip->fd, &seen))
 		return put_node(s, grip->node, -1, nowhere);
 	if (grip->node->counted.number == ROOT_NODE)
@@ -437,7 +437,7 @@ static int save_open_node(struct saving *s, const struct grip *grip)
 		return -1;
 	if (place.parent == NOWHERE && find_first_place(s, grip->node, &seen, &place))
 		return -1;
-	/* (a directory may have become an entry on the way) */
+	/* (a directory may have got an entry meanwhile) */
 	if (entry_of(s, grip->node->counted.number) != NOWHERE)
 		return 0;
 	if (place.parent == NOWHERE && seen.stx_nlink)
@@ -445,8 +445,8 @@ static int save_open_node(struct saving *s, const struct grip *grip)
 	return put_node(s, grip->node, grip->fd, place);
 }
 
-/* Saves a node by its number, unless it has an entry. One that went meanwhile is left out; one whose handle does not open,
- * as where its file is gone, has neither handle nor place. */
+/* Saves a node by its number, unless it has an entry. A node that was removed meanwhile is skipped. If its handle
+ * cannot be opened, for example because the file is gone, it is saved without handle and place. */
 static int save_node(struct saving *s, uint64_t number)
 {
 	struct nodes *nodes = &s->all->nodes;
@@ -509,7 +509,7 @@ static int found_by_search(void *user, uint64_t number, uint32_t parent, const c
 	struct grip grip;
 	int failed;
 
-	/* (one whose handle opens nothing any more is saved without a place, at the end) */
+	/* (a node whose handle cannot be opened is saved without a place, at the end) */
 	if (entry_of(s, number) != NOWHERE || node_get(&s->all->nodes, number, &grip))
 		return 0;
 	failed = put_node(s, grip.node, grip.fd, place_in(parent, name));
@@ -518,7 +518,8 @@ static int found_by_search(void *user, uint64_t number, uint32_t parent, const c
 	return failed;
 }
 
-/* Reads the directories that the client knows: Linux's knows that of each name by which it can reach a file. */
+/* Reads the directories that the client knows. Linux's client knows the directory of each name by which it can
+ * reach a file. */
 static void search_known(struct saving *s, struct search *search)
 {
 	struct nodes *nodes = &s->all->nodes;
@@ -557,7 +558,7 @@ static int save_not_found(struct saving *s, uint64_t number)
 	return failed;
 }
 
-/* Saves the nodes that are sought. One search is for all of them. */
+/* Saves the nodes without a known path, by one search for all. */
 static int save_sought(struct saving *s)
 {
 	const struct seeker seeker = { s, goes_on, known_to_search, enter_for_search, found_by_search };
@@ -585,7 +586,7 @@ static int save_sought(struct saving *s)
 	return failed;
 }
 
-/* ---- mounts, open files, and all of it */
+/* ---- mounts, open files, and the whole state */
 
 /* Records a directory as that of its mount, unless one with a shorter path is known. */
 static int note_mount(struct saving *s, uint64_t number)
@@ -634,7 +635,7 @@ static int save_mounts(struct saving *s)
 	return failed;
 }
 
-/* Saves the open files. Their flags are those that the host has now, as O_APPEND and O_DIRECT may have changed since the
+/* Saves the open files. Their flags are the current ones, because O_APPEND and O_DIRECT may have changed since the
  * open. */
 static int save_files(struct saving *s)
 {

@@ -20,9 +20,10 @@
  * size of a name with its 0; BATCH: the size of the names of one level; SPARE: the space for names in
  * addition to one name for each level. */
 enum { ENTRIES = 32768, MOST_LEVELS = 16384, NAME_BYTES = 256, BATCH = 16384, SPARE = 1 << 20 };
-/* How many names are looked at of a directory that is read by itself, so that a long one leaves some for the others. */
+/* How many names of a directory that search_directory() reads are checked, so that a large one leaves some of the
+ * limit for others. */
 enum { NAMES_OF_ONE = 65536 };
-/* As many bytes as all levels together need for one name each, and the spare ones. */
+/* Enough space for one name of each level, and the spare bytes. */
 enum { ALL_NAMES = MOST_LEVELS * NAME_BYTES + SPARE };
 
 struct level {
@@ -30,10 +31,10 @@ struct level {
 	/* Where reading the directory continues, and whether its end was reached. */
 	off_t resume;
 	bool is_read;
-	/* Its entry of the state; NOWHERE: it has none yet. */
+	/* Its entry in the state, or NOWHERE if it has none yet. */
 	uint32_t entry;
-	/* The names of its directories, in `names`: those from `next` to `end` are still to be visited, and `visited` is the
-	 * one whose level is above this one. */
+	/* The names of its directories, in `names`: those from `next` to `end` are still to be visited; `visited`
+	 * is the one that leads to the level above this one. */
 	uint32_t begin, next, end, visited;
 };
 
@@ -43,13 +44,13 @@ struct search {
 	/* The files to find, in chains by inode. `mask` is the number of chains minus one. */
 	struct sought **chains;
 	size_t mask;
-	/* How many are left, and how many of these are mounted. */
+	/* How many files are not found yet, and how many of these are mounted. */
 	size_t left, mounted;
-	/* How many more names may be looked at. */
+	/* How many more names may be read. */
 	uint64_t names_left;
-	/* It was ended, and that because no more names may be looked at. */
+	/* It was ended; and it was ended by the limit of names. */
 	bool is_ended, is_cut;
-	/* The level of the directory that is read; below 0: one whose entry is `entry`. */
+	/* The level of the current directory; negative: a directory whose entry is `entry`. */
 	int depth;
 	uint32_t entry;
 	struct level *levels;
@@ -113,7 +114,7 @@ bool search_is_cut(const struct search *s)
 	return s->is_cut;
 }
 
-/* The entry of the directory that is read. Those above it that have no entry get one first. */
+/* Returns the entry of the current directory, and creates those of the directories above it first. */
 static uint32_t entry_here(struct search *s)
 {
 	int at = s->depth;
@@ -134,7 +135,7 @@ static uint32_t entry_here(struct search *s)
 	return s->levels[s->depth].entry;
 }
 
-/* Looks whether a file is sought that has this name in the directory that is read. */
+/* Reports a file with these attributes that has this name in the current directory, if it is searched. */
 static void match(struct search *s, const struct statx *seen, const char *name)
 {
 	const struct file_id id = id_of(seen);
@@ -150,7 +151,7 @@ static void match(struct search *s, const struct statx *seen, const char *name)
 		parent = entry_here(s);
 		if (parent == NOWHERE)
 			return;
-		/* (another name of the file needs not be looked for) */
+		/* (other names of the file are not needed) */
 		*at = one->next;
 		s->left--;
 		s->mounted -= one->is_mounted;
@@ -159,9 +160,9 @@ static void match(struct search *s, const struct statx *seen, const char *name)
 	}
 }
 
-/* Looks at a name of the directory that is read. Most need no call of the host, by the inode that the directory has. Where
- * something is mounted this is the inode below it: so a directory is looked at by itself once it is open, and each other
- * file as long as a mounted one is sought. Returns whether the name is that of a directory. */
+/* Checks a name of the current directory. For most names the inode in the directory entry suffices. For a mount
+ * point, that is the inode below the mount; so a directory is checked once it is open, and other files are checked
+ * by statx(2) while a mounted one is searched. Returns whether the name is that of a directory. */
 static bool look_at_name(struct search *s, int fd, const struct dirent64 *entry)
 {
 	const bool may_be_sought = s->mounted || *chain_of(s, entry->d_ino);
@@ -221,7 +222,7 @@ void search_directory(struct search *s, int fd, uint32_t entry)
 static bool keep_name(struct search *s, struct level *level, const char *name)
 {
 	const uint32_t len = (uint32_t)strlen(name) + 1;
-	/* (the levels above this one need one name each) */
+	/* (the levels above this one need space for one name each) */
 	const uint32_t most = ALL_NAMES - (uint32_t)(MOST_LEVELS - 1 - s->depth) * NAME_BYTES;
 
 	if (level->end > level->begin && (level->end - level->begin + len > BATCH || level->end + len > most))
@@ -246,7 +247,7 @@ static void read_level(struct search *s, int fd, struct level *level)
 		for (ssize_t at = 0; at < got && counts_name(s);) {
 			const struct dirent64 *entry = (const void *)(s->entries + at);
 
-			/* (one that is not kept is read again) */
+			/* (a name that is not stored is read again) */
 			if (look_at_name(s, fd, entry) && !keep_name(s, level, entry->d_name))
 				return;
 			level->resume = entry->d_off;
@@ -255,7 +256,7 @@ static void read_level(struct search *s, int fd, struct level *level)
 	}
 }
 
-/* Begins the level of a directory that was opened, and looks at it. */
+/* Starts the level of an open directory, and gets its attributes. */
 static void begin_level(struct search *s, int fd, const struct statx *seen, uint32_t begin)
 {
 	struct level *level = &s->levels[s->depth];
@@ -271,7 +272,7 @@ static bool is_done(const struct level *level)
 	return level->is_read && level->next == level->end;
 }
 
-/* Returns a descriptor if it is of the directory of the level. It is closed if not: -1. */
+/* Returns the descriptor if it is that of the level's directory. Otherwise closes it and returns -1. */
 static int if_level(const struct search *s, int fd)
 {
 	struct statx seen;

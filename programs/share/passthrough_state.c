@@ -1,4 +1,4 @@
-/* The bytes of a passthrough's state: passthrough_state.h. */
+/* Encoding and decoding of a passthrough's state: passthrough_state.h. */
 #define _GNU_SOURCE
 #include <stdarg.h>
 #include <stdio.h>
@@ -10,10 +10,10 @@
 
 static const char magic[8] = "nizwarf";
 
-/* How many bytes each record has before its handle and name. */
+/* The size of each record before its handle and name. */
 enum { NODE_BYTES = 36, DIRECTORY_BYTES = 4, FILE_BYTES = 20, END_BYTES = 24 };
 _Static_assert(NODE_BYTES + MAX_HANDLE_SZ + STATE_NAME_MAX <= STATE_LONGEST, "a record has a node");
-/* So that lookups which the client adds cannot run over. */
+/* The largest lookup count, so that lookups which the client adds cannot overflow it. */
 #define MOST_LOOKUPS (UINT64_C(1) << 62)
 /* Flags of open(2) that an open file keeps. */
 #define KEPT_FLAGS (O_ACCMODE | O_APPEND | O_SYNC | O_DSYNC | O_NOATIME | O_DIRECT | O_DIRECTORY)
@@ -34,7 +34,7 @@ static unsigned char *put_bytes(unsigned char *at, const void *bytes, size_t len
 	return at + len;
 }
 
-/* Bytes that are decoded. The caller must not get more than are left. */
+/* Bytes to decode. The caller must not read more than are left. */
 struct bytes {
 	const unsigned char *at;
 	size_t left;
@@ -178,7 +178,7 @@ bool state_decode_directory(const unsigned char *bytes, size_t len, struct state
 	return directory->parent != NOWHERE && is_name(directory->name, directory->name_len);
 }
 
-/* No flag is taken that opens otherwise, as O_CREAT or O_TRUNC would. */
+/* Flags such as O_CREAT or O_TRUNC, which change what an open does, are refused. */
 bool state_decode_file(const unsigned char *bytes, size_t len, struct state_file *file)
 {
 	struct bytes from = { bytes, len };
@@ -212,7 +212,7 @@ bool state_is_path(const char *path, size_t len)
 		const char *end = memchr(path, '/', len);
 		const size_t name = end ? (size_t)(end - path) : len;
 
-		/* (no / is at the end) */
+		/* (a path must not end with a slash) */
 		if (!is_name(path, name) || (end && name + 1 == len))
 			return false;
 		path += end ? name + 1 : name;

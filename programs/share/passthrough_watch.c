@@ -40,7 +40,7 @@ enum { PARTS = 64, FIRST_CHAINS = 64, EVENTS = 65536, MOST_ALIKE = 64, CHANGED =
 /* In milliseconds: how long events are collected; how long the thread rests after events were lost; how often it
  * checks whether there is a client; and how long names are cached if they cannot be invalidated all at once. */
 enum { GATHER = 1, REST = 100, LOOK = 20, MINUTE = 60000 };
-/* How many times events are read that are not looked at, since all is old. */
+/* How many times pending events are read and ignored, because everything is invalidated. */
 enum { MOST_DRAINED = 64 };
 
 /* The fanotify events: for a directory, changes of its entries, also those that are directories, and of its own
@@ -54,7 +54,7 @@ enum { MOST_DRAINED = 64 };
  * fields without a comment do not change. */
 struct watched {
 	struct watched *next;
-	/* 0: no client knows it yet. */
+	/* 0: no client knows the file yet. */
 	atomic_ullong node;
 	uint64_t hash;
 	bool is_directory;
@@ -63,14 +63,14 @@ struct watched {
 	unsigned char bytes[];
 };
 
-/* Files by their handles: a mark is made and taken away under the lock, since another node may be of the same file. */
+/* Files by their handles. A mark is added and removed under the lock, because another node may have the same file. */
 struct part {
 	pthread_mutex_t lock;
 	struct watched **chains;
 	size_t size, count;
 };
 
-/* A file whose attributes are old, or its bytes too. */
+/* A file whose attributes, or data too, must be invalidated. */
 struct changed {
 	uint64_t node;
 	bool has_data;
@@ -95,7 +95,7 @@ struct watch {
 	_Alignas(struct fanotify_event_metadata) char events[EVENTS];
 };
 
-/* FNV-1a, over the type and the bytes of a handle, with a last step for those that use the lower bits. */
+/* FNV-1a over the type and the bytes of a handle, with a last step because chains use the lower bits. */
 static uint64_t hash_of(const struct file_handle *handle)
 {
 	uint64_t hash = UINT64_C(0xcbf29ce484222325) ^ (uint32_t)handle->handle_type;
@@ -286,7 +286,7 @@ void watch_remove(struct watch *all, struct watched *watched, int fd)
 	free(watched);
 }
 
-/* The nodes of a file: how many, MOST_ALIKE at most. */
+/* Finds the nodes of a file. Returns how many there are, at most MOST_ALIKE. */
 static unsigned find(struct watch *all, const struct file_handle *handle, uint64_t *nodes)
 {
 	const uint64_t hash = hash_of(handle);
@@ -322,7 +322,8 @@ static void tell_file(struct watch *all, uint64_t node, bool has_data)
 		    nizwarf_notice_inval_inode(node, has_data ? 0 : -1, 0, notice, sizeof(notice)));
 }
 
-/* A name is old. It is dropped, and not only looked up again: a reply that is under way could make it last again. */
+/* Invalidates a name. It is dropped, instead of being looked up again, because a reply in flight could make it
+ * valid again. */
 static void tell_name(struct watch *all, uint64_t directory, const char *name)
 {
 	unsigned char notice[512];
@@ -331,7 +332,7 @@ static void tell_name(struct watch *all, uint64_t directory, const char *name)
 		    nizwarf_notice_inval_entry(directory, 0, name, strlen(name), notice, sizeof(notice)));
 }
 
-/* All names are old. 0, or an error. */
+/* Invalidates all names. Returns 0 or an error. */
 static int tell_all_names(struct watch *all)
 {
 	unsigned char notice[64];
@@ -348,7 +349,7 @@ static void look_for_epoch(struct watch *all)
 		atomic_store(&all->has_epoch, error ? -1 : 1);
 }
 
-/* The nodes of a chain, from one of them on: how many, EACH at most; -1: there is no such chain. */
+/* Copies the nodes of a chain from a position on. Returns how many, at most EACH, or -1 if there is no such chain. */
 static int copy_chain(struct part *part, size_t at, size_t skip, uint64_t *nodes)
 {
 	int count = -1;
@@ -448,8 +449,8 @@ static void take_event(struct watch *all, const struct fanotify_event_metadata *
 		all->is_lost = true;
 		return;
 	}
-	/* Each record is a head, a handle, and with DFID_NAME a name that ends with a 0. The length in
-	 * its head leads to the next one. They are the kernel's, and believed. */
+	/* Each record consists of a header, a handle, and with DFID_NAME a name that ends with a 0. The header
+	 * contains the length. The kernel makes the records, so they are not checked. */
 	while ((size_t)(end - at) >= sizeof(struct fanotify_event_info_fid) + sizeof(struct file_handle)) {
 		const struct fanotify_event_info_fid *record = (const void *)at;
 		const struct file_handle *handle = (const void *)record->handle;
@@ -475,7 +476,7 @@ static bool take_events(struct watch *all)
 	struct fanotify_event_metadata event;
 
 	while ((size_t)(end - at) >= sizeof(event)) {
-		/* (it may begin at any multiple of 4) */
+		/* (events are aligned to 4 bytes only) */
 		memcpy(&event, at, sizeof(event));
 		take_event(all, &event, at + event.metadata_len, at + event.event_len);
 		at += event.event_len;

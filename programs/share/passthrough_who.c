@@ -22,7 +22,7 @@
 enum { CLEARS_GROUP = 1 };
 #define NO_GROUP (UINT32_MAX - 1)
 
-/* Sets those of this thread, by bits; none can be inherited. 0, or -1 with errno. */
+/* Sets the capabilities of this thread. None can be inherited. Returns 0, or -1 with errno. */
 static int set_capabilities(uint64_t permitted, uint64_t effective)
 {
 	struct __user_cap_header_struct header = { _LINUX_CAPABILITY_VERSION_3, 0 };
@@ -40,7 +40,7 @@ struct who {
 	bool has_group;
 };
 
-/* Finds them: 0, or an error. EPERM: one of them is forbidden by --translate-uid or --translate-gid. */
+/* Finds the caller's ids. Returns 0 or an error: EPERM, if --translate-uid or --translate-gid forbid one of them. */
 static int find_who(const struct call *call, struct who *who)
 {
 	const struct passthrough_options *options = &call->all->options;
@@ -80,7 +80,7 @@ int become(const struct call *call)
 		umask(asked->umask & 0777);
 	if (!changes_who(w, &who))
 		return 0;
-	/* (-1 means to setresuid(2) that the id stays, which is root's) */
+	/* (in setresuid(2), -1 means that the id does not change, which would be root's) */
 	if (who.uid == UINT32_MAX || who.gid == UINT32_MAX)
 		return EINVAL;
 	/* (by raw system calls, which change only this thread) */
@@ -93,8 +93,7 @@ int become(const struct call *call)
 	return 0;
 }
 
-/* What become() did is taken back, in the other order: the user first, by which the groups may be
- * changed again. */
+/* Undoes become() in reverse order: the user first, because only root may change the groups. */
 void become_root(const struct call *call)
 {
 	const struct worker *w = call->worker;
@@ -189,7 +188,7 @@ static int limit(uint64_t *left, const struct passthrough_options *options)
 {
 	struct __user_cap_header_struct header = { _LINUX_CAPABILITY_VERSION_3, 0 };
 	struct __user_cap_data_struct had[2];
-	/* (by this one handles are opened, of any file of the file system) */
+	/* (with this capability handles are opened, which can open any file of the file system) */
 	const bool opens_handles =
 		options->file_handles != HANDLES_NEVER || options->migration_mode == MIGRATES_BY_HANDLES;
 	uint64_t mask = opens_handles ? UINT64_C(1) << CAP_DAC_READ_SEARCH : 0;
@@ -217,14 +216,14 @@ int passthrough_limit(const struct passthrough_options *options)
 
 int begin_worker(struct worker *w, const struct passthrough_options *options)
 {
-	/* (a umask of its own) */
+	/* (each worker has its own umask) */
 	if (options->posix_acl && unshare(CLONE_FS))
 		return -1;
 	w->is_root = geteuid() == 0;
 	w->keeps_groups = options->keeps_groups;
 	if (!w->is_root)
 		return 0;
-	/* (a namespace of users may have no group 0: then what root makes has the group of the server) */
+	/* (a user namespace may have no group 0: then files of root get the server's group) */
 	w->gid = syscall(SYS_setresgid, -1, 0, -1) ? getegid() : 0;
 	return limit(&w->capabilities, options) || (!w->keeps_groups && syscall(SYS_setgroups, 0, NULL)) ?
 		       -1 :

@@ -18,11 +18,11 @@
  * is; BAD refuses it with EPERM, and UNSUPPORTED with EOPNOTSUPP, and both hide it in a listing. MAP is replaced
  * by other rules. */
 enum type { PREFIX, OK, BAD, UNSUPPORTED, MAP };
-/* (bits of a scope: whose names a rule is about) */
+/* (bits of a scope: CLIENT for names that the client sends, SERVER for names on the host) */
 enum { CLIENT = 1, SERVER = 2, ALL = CLIENT | SERVER };
 
-/* The first one whose `key` a name of the client begins with, or whose `prepend` one of the host does, is that which
- * holds. */
+/* The first rule applies whose `key` is the beginning of a name of the client, or whose `prepend` is the beginning
+ * of a name of the host. */
 struct rule {
 	enum type type;
 	unsigned scope;
@@ -209,7 +209,7 @@ const char *xattr_map_to_client(const struct xattr_map *map, const char *name)
 {
 	const struct rule *rule = map->rules;
 
-	/* (one holds here too) */
+	/* (some rule applies here too) */
 	while (!(rule->scope & SERVER) || !begins(name, rule->prepend))
 		rule++;
 	if (rule->type == BAD || rule->type == UNSUPPORTED)

@@ -67,7 +67,7 @@ static int fill_standard(void)
 	return 0;
 }
 
-/* Signals that came before there was a child are for it. */
+/* Forwards signals that arrived before there was a child. */
 static void pass_signals(pid_t child)
 {
 	static const int ending[] = { SIGINT, SIGTERM, SIGHUP };
@@ -89,7 +89,7 @@ static void raise_limit(void)
 		return;
 	limit.rlim_cur = limit.rlim_max;
 	setrlimit(RLIMIT_NOFILE, &limit);
-	/* (unasked it is as many as may be) */
+	/* (no warning about the default, which is only an upper limit) */
 	if (words.says_more && words.wants_files)
 		fprintf(stderr,
 			"nizwarf-share: warning: --rlimit-nofile=%lu exceeds the hard limit: using %llu\n",
@@ -105,7 +105,7 @@ static void grow_table(int root)
 
 	if (getrlimit(RLIMIT_NOFILE, &limit) || !limit.rlim_cur)
 		return;
-	/* (a descriptor of such a number makes the table as large, and it stays so) */
+	/* (duplicating a descriptor to this number grows the table, which never shrinks) */
 	fd = fcntl(root, F_DUPFD_CLOEXEC,
 		   limit.rlim_cur < LARGE_TABLE ? (int)limit.rlim_cur - 1 : LARGE_TABLE - 1);
 	if (fd >= 0)
@@ -157,9 +157,9 @@ static int go_to_background(void)
 		_exit(read(ends[0], &result, 1) == 1 ? 0 : 1);
 	}
 	close(ends[0]);
-	/* (so no terminal's signal is for it) */
+	/* (so that it gets no signals of the terminal) */
 	setsid();
-	/* (the path of a socket may be one from here) */
+	/* (only for a mount, because the path of a socket may be relative) */
 	if (is_mount() && chdir("/"))
 		return failed("change to directory", "/");
 	return ends[1];
@@ -301,7 +301,7 @@ static int listen_on_socket(const transport *of)
 		exit(1);
 	if (pid_file_take(words.socket_path))
 		exit(1);
-	/* (whatever fails from here on leaves nothing) */
+	/* (so that any error from here on removes both files) */
 	atexit(remove_at_exit);
 	/* (so that the socket has its mode from the beginning, and nobody else can connect in between) */
 	before = umask(group ? 0117 : 0177);
@@ -376,7 +376,7 @@ static int write_pid_guarded(void)
 	return error;
 }
 
-/* How many queues it has over io_uring, and workers. */
+/* How many queues and workers there are over io_uring. */
 static unsigned queues, ring_workers;
 
 /* Checks whether a mount can be served over io_uring. (In the sandbox Linux does not show that.) */
@@ -385,14 +385,14 @@ static void look_for_rings(void)
 	if (!words.by_ring || device < 0)
 		return;
 	by.ring_workers = by.workers;
-	/* (a request that waits for a lock is kept, and no other one is) */
+	/* (only requests that wait for locks are kept) */
 	by.most_kept = words.files.flock || words.files.posix_lock ? MOST_WAITING : 0;
 	by.wants_ring = 1;
 	queues = fuse_ring.count();
 	ring_workers = queues ? fuse_ring.count_workers(&by, queues) : 0;
 }
 
-/* Makes rings, while they can be: from within the sandbox, and before its filter. */
+/* Creates rings, from within the sandbox and before its filter. */
 static void make_rings(void)
 {
 	if (queues)
@@ -404,8 +404,8 @@ static void make_rings(void)
 		      stderr);
 }
 
-/* How many workers there are at most, and descriptors besides those of files. Over io_uring the worker
- * 0 reads the device, and the others are those of the rings. */
+/* Computes the number of workers, and of descriptors besides those of files. Over io_uring, worker 0 reads the
+ * device, and the others serve the rings. */
 static void count_workers(void)
 {
 	const unsigned of_socket = OF_SOCKET + OF_SOCKET_WORKER * by.workers;
@@ -445,7 +445,7 @@ static int unmount_folder(void *user)
 	return fuse_device_unmount(&by, words.mount_point);
 }
 
-/* Leaves the process that names files to Linux the calls that it needs (fuse_backing_start). */
+/* Restricts the process that registers files to the system calls that it needs (fuse_backing_start). */
 static int limit_backing(void *user)
 {
 	(void)user;
@@ -471,7 +471,7 @@ static int limit(struct passthrough *all)
 				      (opens_handles ? MAY_OPEN_HANDLES : 0) | (by.ring ? MAY_USE_RINGS : 0));
 }
 
-/* Mounts, from within the sandbox if there is one. */
+/* Mounts the directory, from within the sandbox if there is one. */
 static int begin_mount(void)
 {
 	if (!words.mount_point)
@@ -608,15 +608,15 @@ int main(int count, char **given)
 		return 1;
 	if ((status = find_places()))
 		return status;
-	/* (to write after the largest size of a file is an error, and no end) */
+	/* (so that a write beyond the largest size of a file is an error, and does not end the process) */
 	signal(SIGXFSZ, SIG_IGN);
 	signal(SIGPIPE, SIG_IGN);
 	raise_limit();
 	manager = meet_manager();
-	/* (a sandbox has none) */
+	/* (there is no /dev/null in a sandbox) */
 	if ((words.daemonizes || words.is_off) && (nothing = open("/dev/null", O_RDWR | O_CLOEXEC)) < 0)
 		return failed("open", "/dev/null"), 1;
-	/* (one that came before it serves would leave the file of its process too) */
+	/* (a signal before the server is ready would otherwise leave the pid file) */
 	transport_hold_signals(SIG_BLOCK);
 	/* (both must be opened while their paths are valid, and before the program goes to the background, so that
 	 * errors are seen) */
@@ -645,7 +645,7 @@ int main(int count, char **given)
 		vhost_user_leave_socket();
 		pid_file_leave();
 	}
-	/* (while there is a /proc) */
+	/* (while /proc is accessible) */
 	words.files.keeps_groups = users_keep_groups();
 	return serve(listener);
 }

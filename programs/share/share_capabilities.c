@@ -5,7 +5,7 @@
 #include "share_refuse.h"
 #include "share_words.h"
 
-/* The number of a capability. */
+/* Returns the number of a capability. */
 static int capability_of(const char *name)
 {
 	/* Those of linux/capability.h, from 0 on. */
@@ -53,14 +53,14 @@ static int capability_of(const char *name)
 		"checkpoint_restore",
 	};
 
-	/* (in letters of either case, and without CAP_) */
+	/* (ignoring case, and without CAP_) */
 	for (int i = 0; i < (int)(sizeof(known) / sizeof(*known)); i++)
 		if (!strcasecmp(name, known[i]))
 			return i;
 	refuse("--modcaps: unknown capability '%s'", name);
 }
 
-/* Names with + or - before each, and colons between them. */
+/* Parses capabilities separated by colons, each with + or - before it. */
 void take_capabilities(char *rest)
 {
 	char *one;

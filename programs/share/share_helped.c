@@ -1,4 +1,4 @@
-/* Words of mount(8): share_helped.h. */
+/* Options of mount(8): share_helped.h. */
 #define _GNU_SOURCE
 #include <errno.h>
 #include <limits.h>

@@ -1,4 +1,4 @@
-/* The file of a share's process: share_pid.h. */
+/* The pid file of nizwarf-share: share_pid.h. */
 #define _GNU_SOURCE
 #include <errno.h>
 #include <fcntl.h>
@@ -15,10 +15,10 @@
 
 /* A process has at most one pid file. -1: it has none, or has left it. */
 static char path[PATH_MAX];
-/* (at an end that is late two threads may remove it) */
+/* (atomic, because two threads may remove it if the process ends late) */
 static atomic_int file = -1;
 
-/* Says what failed, with the path, as errno has it. */
+/* Prints that an operation on the file failed, and why by errno. Returns -1. */
 static int failed(void)
 {
 	fprintf(stderr, "nizwarf-share: cannot use pid file '%s': %s\n", path, strerror(errno));
@@ -34,7 +34,7 @@ static bool is_there(const struct stat *opened)
 	return !lstat(path, &seen) && seen.st_ino == opened->st_ino && seen.st_dev == opened->st_dev;
 }
 
-/* Opens and locks it. 0: it went meanwhile; 1: it did so. */
+/* Opens and locks the file. Returns 1, or 0 if it was removed meanwhile, or -1 with errno. */
 static int open_locked(void)
 {
 	struct stat opened;
@@ -44,7 +44,7 @@ static int open_locked(void)
 	if (file < 0 || fstat(file, &opened))
 		return -1;
 	if (!S_ISREG(opened.st_mode) || opened.st_nlink > 1 || opened.st_uid != geteuid()) {
-		/* (no name is left: another server removed it just then, and it is tried again) */
+		/* (another server has just removed its name, so it is tried again) */
 		errno = opened.st_nlink ? EPERM : EAGAIN;
 		return opened.st_nlink ? -1 : 0;
 	}
@@ -53,7 +53,7 @@ static int open_locked(void)
 	return is_there(&opened);
 }
 
-/* Keeps the path from the root on, as the server changes its working directory. */
+/* Makes the path absolute, because the server changes its working directory. */
 static void keep_whole_path(void)
 {
 	char whole[PATH_MAX];
@@ -67,7 +67,7 @@ int pid_file_take(const char *socket_path)
 	enum { TRIES = 100 };
 	int come = 0;
 
-	/* (virtiofsd's name for it: so no two servers, of whichever kind, have one socket) */
+	/* (virtiofsd uses the same name, so that only one server of either kind uses a socket) */
 	if (snprintf(path, sizeof(path), "%s.pid", socket_path) >= (int)sizeof(path)) {
 		errno = ENAMETOOLONG;
 		return failed();
@@ -118,7 +118,7 @@ void pid_file_remove(void)
 
 	if (left < 0)
 		return;
-	/* (a file that another server made meanwhile is not removed) */
+	/* (a file that another server created meanwhile is not removed) */
 	if (!fstat(left, &own) && is_there(&own))
 		unlink(path);
 	/* (closing releases the lock: a server that waits for it sees that the name is gone) */

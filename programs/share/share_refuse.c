@@ -85,14 +85,14 @@ static void hold_mount_together(void)
 		refuse("--watch requires a mount point: a virtual machine receives no notifications");
 	if (words.watches && words.files.writeback)
 		refuse("--watch and --writeback cannot be combined: with a writeback cache the client sets file sizes itself");
-	/* (a node that is held by a handle has no descriptor by which it is marked) */
+	/* (a node with a handle has no descriptor by which it could be marked) */
 	if (words.watches && words.files.file_handles != HANDLES_NEVER)
 		refuse("--watch and --inode-file-handles cannot be combined: watched files must stay open");
 	/* (the server does not see data that a client writes itself) */
 	if (words.files.passthrough && words.files.capability)
 		refuse("--passthrough cannot be combined with an --xattrmap that renames " XATTR_NAME_CAPS
 		       ": Linux drops file capabilities only under that name");
-	/* (over a mount data go through buffers that lie anywhere) */
+	/* (the buffers of a mount's data are not aligned) */
 	if (words.files.allow_direct && is_mount())
 		refuse("--allow-direct-io requires --socket-path or --fd");
 }
@@ -109,7 +109,7 @@ static void hold_migration_together(void)
 		refuse("--migration-unlinked-files requires --migration-mode=file-handles");
 }
 
-/* Refuses options that require another user, or another sandbox. */
+/* Refuses options that require another user or another sandbox. */
 static void hold_to_user(void)
 {
 	if (is_mount() && geteuid() != 0)
@@ -120,7 +120,7 @@ static void hold_to_user(void)
 		refuse("--sandbox=chroot requires root");
 	if ((words.files.more_capabilities || words.files.fewer_capabilities) && geteuid() != 0)
 		refuse("--modcaps requires root");
-	/* (root makes no namespace of users, and needs none) */
+	/* (root's server creates no user namespace, and needs none) */
 	if ((words.uids.count || words.gids.count) && geteuid() == 0)
 		refuse("--uid-map and --gid-map are only for users other than root, who has all ids");
 	if ((words.uids.count || words.gids.count) && words.sandbox >= 0 &&

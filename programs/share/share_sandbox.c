@@ -46,7 +46,7 @@ static int failed(const char *action)
 static int asks[2] = { -1, -1 }, tells[2] = { -1, -1 };
 enum { MOUNT = 'm', READY = 'r' };
 
-/* (a mount that failed is not answered: the pipe is closed in place of that) */
+/* (if the mount fails, the parent closes the pipe instead of replying) */
 int sandbox_mount(void)
 {
 	const char mounts = MOUNT;
@@ -105,7 +105,7 @@ static void do_asked(struct server *server)
 static int await_signal(struct server *server, int signals)
 {
 	const bool is_to_end = server->end >= TOLD || (server->end == UNMOUNTED && server->may_ask);
-	/* (one below 0 is not looked at) */
+	/* (poll(2) ignores a negative descriptor) */
 	struct pollfd wait[] = { { signals, POLLIN, 0 }, { server->may_ask ? asks[0] : -1, POLLIN, 0 } };
 	const int came = poll(wait, 2, is_to_end ? PATIENCE * 1000 : -1);
 	struct signalfd_siginfo said;
@@ -167,13 +167,12 @@ static _Noreturn void stand_by(pid_t child, int signals, const struct outside *o
 			break;
 		if (!signal || signal == SIGCHLD)
 			continue;
-		/* (it waits for what nothing interrupts) */
+		/* (the child does not exit even after SIGKILL, because an uninterruptible system call blocks) */
 		if (signal < 0 && server.end == KILLED)
 			break;
 		pass_on(&server, signal);
 	}
-	/* (the child may have ended by itself; where nothing of it is mounted any more this does
-	 * nothing) */
+	/* (the child may have exited by itself; if nothing is mounted any more, this does nothing) */
 	is_left = server.is_mounted && outside->unmount(outside->user);
 	if (outside->end)
 		outside->end(outside->user);
@@ -238,7 +237,7 @@ int sandbox_fork(enum sandbox sandbox, const struct id_map *uids, const struct i
 	return 0;
 }
 
-/* (by such a descriptor files are named, and nothing is read) */
+/* (such a descriptor only names a file, and does not open it) */
 enum { KEEPS_PATH = O_PATH | O_DIRECTORY | O_CLOEXEC };
 
 /* Opens /proc/self/fd in its own mount namespace as the root of a mount that is attached nowhere, so that `..`
@@ -247,7 +246,7 @@ static int open_apart(void)
 {
 	int fd;
 
-	/* (where it is mounted for a moment is always there) */
+	/* (/proc is only a temporary mount point, because it always exists) */
 	if (mount("/proc/self/fd", "/proc", NULL, MS_BIND, NULL))
 		return -1;
 	fd = open("/proc", KEEPS_PATH);
@@ -265,7 +264,7 @@ static int open_copy(void)
 	int fd = -1;
 
 #ifdef SYS_open_tree
-	/* (OPEN_TREE_CLONE, which older headers lack: a copy of the mount, which is nowhere) */
+	/* (OPEN_TREE_CLONE, which older headers lack: a copy of the mount that is attached nowhere) */
 	fd = (int)syscall(SYS_open_tree, AT_FDCWD, "/proc/self/fd", 1 | O_CLOEXEC);
 #endif
 	if (fd >= 0)
@@ -353,7 +352,7 @@ int sandbox_enter(enum sandbox sandbox, const char *folder, int *root, int *proc
 			return failed("enter --sandbox=chroot");
 		folder = "/";
 	}
-	/* (from here on files are named by these two descriptors, and by no path) */
+	/* (from here on files are named by these two descriptors, and not by paths) */
 	*root = open(folder, KEEPS_PATH);
 	if (*root < 0)
 		return failed("open the shared directory");
@@ -483,19 +482,19 @@ static const char *const handle_calls[] = { "name_to_handle_at", "open_by_handle
  * others the server could type at a terminal.) */
 static const uint32_t controls[] = { FUSE_DEV_IOC_CLONE, TCGETS };
 
-/* And by fcntl: flags, copies of descriptors, the size of a pipe, and locks of open files. Others, as F_SETOWN, would
- * let it send signals to processes outside of a chroot. A command that the server begins to use must be added here, or
- * the filter ends the server. */
+/* The permitted commands of fcntl(2): flags, copies of descriptors, the size of a pipe, and locks of open files.
+ * Others, such as F_SETOWN, would let the server send signals to processes outside of a chroot. A command that the
+ * server starts to use must be added here, or the filter ends the server. */
 static const uint32_t commands[] = { F_GETFL,	  F_DUPFD_CLOEXEC, F_SETPIPE_SZ,
 				     F_OFD_GETLK, F_OFD_SETLK,	   F_OFD_SETLKW };
 
-/* The flags of clone(2) that make a thread, and those that make a namespace. */
+/* The flags of clone(2) that create a thread, and those that create a namespace. */
 static const uint64_t of_thread = CLONE_THREAD, of_namespace = CLONE_NEWNS | CLONE_NEWCGROUP | CLONE_NEWUTS |
 							       CLONE_NEWIPC | CLONE_NEWUSER | CLONE_NEWPID |
 							       CLONE_NEWNET;
 
-/* Lets calls through by their names: 0, or an error below 0. One that this processor lacks has a
- * number of libseccomp's own, and its rule does nothing. */
+/* Permits system calls by their names. Returns 0 or a negative error. For a call that this processor lacks,
+ * libseccomp uses a number of its own, and the rule does nothing. */
 static int let(scmp_filter_ctx rules, const char *const *names, size_t count)
 {
 	int error = 0;
@@ -533,8 +532,8 @@ static int let_limited(scmp_filter_ctx rules)
 
 	if (!error)
 		error = let_values(rules, SCMP_SYS(fcntl), 1, commands, sizeof(commands) / sizeof(*commands));
-	/* (with O_ASYNC a terminal sends signals to its foreground processes; an error, since a front end may have set
-	 * it for a descriptor whose flags are changed here) */
+	/* (With O_ASYNC a terminal sends signals to its foreground processes. It is an error instead of ending the
+	 * server, because a front end may have set it for a descriptor whose flags are changed here.) */
 	if (!error)
 		error = seccomp_rule_add(rules, SCMP_ACT_ALLOW, SCMP_SYS(fcntl), 2,
 					 SCMP_A1(SCMP_CMP_MASKED_EQ, UINT32_MAX, F_SETFL),
@@ -549,7 +548,7 @@ static int let_limited(scmp_filter_ctx rules)
 	/* (0 is the calling process, as in getrlimit(3)) */
 	if (!error)
 		error = let_values(rules, SCMP_SYS(prlimit64), 0, &itself, 1);
-	/* (a worker's umask is its own) */
+	/* (each worker has its own umask) */
 	if (!error)
 		error = let_values(rules, SCMP_SYS(unshare), 0, &only_files, 1);
 	if (!error)
@@ -655,7 +654,7 @@ int sandbox_filter(enum calls_filter filter, unsigned may)
 		error = let_limited(rules);
 	if (!error && may & MAY_WATCH)
 		error = let_watch(rules);
-	/* (without a sandbox the server unmounts by itself) */
+	/* (without a sandbox the server unmounts itself) */
 	if (!error && may & MAY_UNMOUNT)
 		error = seccomp_rule_add(rules, SCMP_ACT_ALLOW, SCMP_SYS(umount2), 0);
 	return end_rules(rules, error);

@@ -1,4 +1,4 @@
-/* The log of the system: share_syslog.h. */
+/* Messages in the system log: share_syslog.h. */
 #define _GNU_SOURCE
 #include <errno.h>
 #include <fcntl.h>
@@ -54,14 +54,13 @@ static _Noreturn void log_lines(int from)
 	_exit(0);
 }
 
-/* Is a process of its own, that nobody waits for, and has no descriptor of the caller's. */
+/* Starts a separate process, for which nobody waits, and which has none of the caller's descriptors. */
 static _Noreturn void begin_log(const int ends[2])
 {
 	const pid_t child = fork();
 
 	if (child)
-		/* (the one between ends at once: so the log is nobody's child that would have to be
-		 * waited for) */
+		/* (the process in between exits at once, so that nobody must wait for the logging process) */
 		_exit(child < 0);
 	dup2(ends[0], STDIN_FILENO);
 	/* (a process that waits for the server's output to end must not wait for the log) */

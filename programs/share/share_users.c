@@ -40,7 +40,7 @@ static bool is_own(const struct id_map *map, uint32_t own)
 	return map->count == 1 && map->ranges[0].outside == own && map->ranges[0].count == 1;
 }
 
-/* Writes a map of one id. (40 bytes hold two numbers of ten digits, and a 1.) */
+/* Writes a map of one id. (40 bytes are enough for two numbers of ten digits, and a 1.) */
 static int put_own(const char *path, const struct id_map *map)
 {
 	char text[40];
@@ -112,7 +112,7 @@ static int leave(const int ends[2], const struct id_map *uids, const struct id_m
 		transport_say("nizwarf-share", "use --sandbox=none to serve without a sandbox");
 		return -1;
 	}
-	/* (the namespace is there: the maps of more ids can be written from outside) */
+	/* (the namespace exists now, so maps with more ids can be written from outside) */
 	if (write(ends[1], "", 1) != 1 || waitpid(child, &status, 0) != child)
 		return failed("map user ids");
 	if (!WIFEXITED(status) || WEXITSTATUS(status)) {
@@ -150,7 +150,7 @@ static bool has_root(const struct id_map *map)
 
 int users_be_root(const struct id_map *uids, const struct id_map *gids)
 {
-	/* (by the capabilities of its own namespace) */
+	/* (by the capabilities that it has in its own namespace) */
 	if ((has_root(gids) && setresgid(0, 0, 0)) || (has_root(uids) && setresuid(0, 0, 0)))
 		return failed("become root in the user namespace");
 	return 0;

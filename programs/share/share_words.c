@@ -38,8 +38,7 @@ struct share_words words = {
 		   .entry_time = AS_CACHE_SAYS,
 		   .attr_time = AS_CACHE_SAYS },
 	.allow_other = "",
-	/* (so set-user-ID files and devices mean nothing below the mount point, unless suid and dev
-	 * are asked for) */
+	/* (so that set-ID bits and devices have no effect below the mount point, unless suid or dev is given) */
 	.flags = MS_NOSUID | MS_NODEV,
 	.max_read = TRANSPORT_PAYLOAD,
 	.most_files = MOST_FILES,
@@ -49,8 +48,8 @@ struct share_words words = {
 	.says_more = true,
 };
 
-/* The number that a value is, between two that it may be. It is decimal, and begins with a digit:
- * strtoul() would take spaces and signs before it. */
+/* Returns a decimal number in a range. It must begin with a digit, because strtoul() would accept white space and
+ * a sign before it. */
 static unsigned long number(const char *key, const char *value, unsigned long least, unsigned long most)
 {
 	unsigned long n;
@@ -67,7 +66,7 @@ static unsigned long number(const char *key, const char *value, unsigned long le
  * the same order. */
 static int one_of(const char *key, const char *value, const char *const *known)
 {
-	/* (each list is a constant of this file, and is shorter) */
+	/* (each list is a constant of this file, and shorter) */
 	char text[100] = "";
 	size_t len = 0;
 
@@ -79,8 +78,8 @@ static int one_of(const char *key, const char *value, const char *const *known)
 	refuse("%s must be one of %s, not '%s'", key, text, value);
 }
 
-/* Seconds, perhaps with digits after a point, in milliseconds. Neither a hexadecimal number nor one
- * with an exponent is taken, nor more than 1e9, which is some thirty years. */
+/* Returns milliseconds, from seconds that may have digits after a point. Hexadecimal numbers and exponents are
+ * refused, and so are more than 1e9 seconds, about thirty years. */
 static uint64_t milliseconds(const char *key, const char *value)
 {
 	double seconds = -1;
@@ -101,7 +100,7 @@ static void take_log_level(const char *value)
 	static const char *const levels[] = { "off", "error", "warn", "info", "debug", "trace", NULL };
 	const int level = one_of("--log-level", value, levels);
 
-	/* (error and warn say the same: all that is wrong) */
+	/* (error and warn are the same) */
 	words.is_off = level == 0;
 	words.says_more = level >= 3;
 	words.traces = level >= 4;
@@ -185,7 +184,7 @@ static void take_xattr_map(const char *rules)
 	words.files.capability = xattr_is_renamed(XATTR_NAME_CAPS, &capability) ? capability.bytes : NULL;
 }
 
-/* (in the order of enum sandbox; and so are the others in that of theirs) */
+/* (in the order of enum sandbox; the other lists are in that of their enums too) */
 static const char *const sandboxes[] = { "none", "chroot", "namespace", NULL };
 
 /* The same for options with a value. (`none` is virtiofsd's old name of the cache policy never; it is the last in
@@ -299,7 +298,7 @@ static char *next_option(char **rest)
 	char *option = strsep(rest, ",");
 
 	while (option && !strncmp(option, "source=", 7) && *rest && **rest == ',') {
-		/* (strsep() put a 0 in place of the first comma) */
+		/* (strsep() has replaced the first comma by a 0) */
 		(*rest)[-1] = ',';
 		memmove(*rest, *rest + 1, strlen(*rest));
 		strsep(rest, ",");
@@ -307,7 +306,7 @@ static char *next_option(char **rest)
 	return option;
 }
 
-/* (a list may have nothing between two commas) */
+/* (a list may contain empty options) */
 void take_options(char *rest)
 {
 	char *option;
@@ -328,7 +327,7 @@ enum word {
 	SOCKET_PATH,
 	FD,
 	SOCKET_GROUP,
-	/* What managers of machines say besides. */
+	/* Options of managers of virtual machines. */
 	TAG,
 	SYSLOG,
 	/* Migration. */
@@ -360,7 +359,7 @@ enum word {
 	KILLPRIV,
 	NO_KILLPRIV,
 	NOATIME,
-	/* How much is held of it, and by what. */
+	/* How many files the server holds, and by what. */
 	NODE_LIMIT,
 	FILE_HANDLES,
 	/* Resources and privileges of the process. */
@@ -370,7 +369,7 @@ enum word {
 	SANDBOX,
 	UID_MAP,
 	GID_MAP,
-	/* Whose a file is. */
+	/* Ids. */
 	TRANSLATE_UID,
 	TRANSLATE_GID,
 	/* System calls and messages. */
@@ -400,7 +399,7 @@ static const struct option known_words[] = {
 	{ "migration-verify-handles", no_argument, NULL, VERIFY_HANDLES },
 	{ "migration-unlinked-files", no_argument, NULL, UNLINKED_FILES },
 	{ "migration-confirm-paths", no_argument, NULL, CONFIRM_PATHS },
-	/* From here to trace: what may be an option, too. */
+	/* From here to trace: options that -o accepts too. */
 	{ "cache", required_argument, NULL, CACHE },
 	{ "allow-mmap", no_argument, NULL, ALLOW_MMAP },
 	{ "allow-direct-io", no_argument, NULL, ALLOW_DIRECT_IO },
@@ -455,8 +454,8 @@ static _Noreturn void print(int word)
 	exit(fflush(stdout) != 0);
 }
 
-/* A range of ids: three numbers with a sign between them and around, as :0:100000:65536: are inside,
- * outside and how many. The text is taken apart. (4294967295 is no id, and no range reaches it.) */
+/* Parses a range of ids: three numbers with separators between and around them, such as :0:100000:65536: for
+ * inside, outside and count. It modifies the text. (4294967295 is not an id, and no range contains it.) */
 static void take_range(const char *key, char *rest, struct id_map *map)
 {
 	const char sign[] = { *rest, 0 };
@@ -539,7 +538,7 @@ static void take_served(int word)
 	static const char *const on_errors[] = { "abort", "guest-error", NULL };
 	int which;
 
-	/* (by their order in the enum) */
+	/* (by the order of the enum) */
 	words.migrates |= word >= MIGRATION_MODE && word <= CONFIRM_PATHS;
 	if (take_plain(word))
 		return;
@@ -562,7 +561,7 @@ static void take_served(int word)
 		words.files.most_nodes = (unsigned)number("--node-limit", optarg, 2, INT_MAX);
 		break;
 	case FILE_HANDLES:
-		/* (fallback is as prefer) */
+		/* (fallback is the same as prefer) */
 		which = one_of("--inode-file-handles", optarg, handles);
 		words.files.file_handles =
 			which <= HANDLES_ALONE ? (enum file_handles)which : HANDLES_PREFERRED;
@@ -571,15 +570,15 @@ static void take_served(int word)
 	case MODCAPS:
 		take_capabilities(optarg);
 		break;
-	/* With 0 virtiofsd has no pool, and serves on one thread: so does this. More than may be are
-	 * as many. */
+	/* With 0, virtiofsd has no pool and serves on one thread; here this means one worker. A larger number is
+	 * reduced to the limit. */
 	case POOL:
 		words.files.workers = (unsigned)number("--thread-pool-size", optarg, 0, UINT_MAX);
 		words.files.workers += !words.files.workers;
 		if (words.files.workers > TRANSPORT_MOST_WORKERS)
 			words.files.workers = TRANSPORT_MOST_WORKERS;
 		break;
-	/* (of 0 the limit stays as it is) */
+	/* (0 leaves the limit unchanged) */
 	case NOFILE:
 		words.most_files = number("--rlimit-nofile", optarg, 0, INT_MAX);
 		words.wants_files = true;
@@ -639,7 +638,7 @@ static void take_word(int word)
 		words.socket_group = optarg;
 		break;
 	case TAG:
-		/* (as long as one of a virtio-fs device may be) */
+		/* (the limit is that of a virtio-fs device) */
 		if (!*optarg || strlen(optarg) > 36)
 			refuse("--tag must have 1 to 36 bytes, not '%s'", optarg);
 		words.tag = optarg;
@@ -652,7 +651,7 @@ static void take_word(int word)
 	case VERSION:
 	case HELP:
 		print(word);
-	/* (-f, with which virtiofsd stayed in the foreground) */
+	/* (-f, which kept virtiofsd in the foreground) */
 	default:
 		take_served(word);
 		break;
@@ -685,7 +684,7 @@ static bool take_as_word(const char *key, char *value)
 			continue;
 		if (value ? word->has_arg == no_argument : word->has_arg == required_argument)
 			return false;
-		/* (where getopt_long(3) leaves a value, take_served() looks for it) */
+		/* (take_served() reads the value where getopt_long(3) stores it) */
 		optarg = value;
 		take_served(word->val);
 		return true;
@@ -776,7 +775,7 @@ void take_words(int count, char **given)
 		words.sandbox = SANDBOX_NAMESPACE;
 	if (words.filter < 0)
 		words.filter = has_filter ? FILTER_KILL : FILTER_NONE;
-	/* (each of these is of no use without attributes) */
+	/* (each of these requires extended attributes) */
 	words.files.xattr |= words.files.posix_acl || words.files.xattr_map || words.files.security_label;
 	/* (both the mount and the server must be read-only) */
 	if (words.files.read_only)
