@@ -35,7 +35,7 @@ cd "$(dirname "$0")"
 root=$destdir${prefix%/}
 list=$root/share/nizwarf/installed
 
-# Removes what the list has: files, and folders that were made for them, if they are empty.
+# Removes the listed files, and directories that were created for them, if they are empty.
 remove() {
     sort -r "$list" | while IFS= read -r path; do
         case $path in
@@ -57,11 +57,11 @@ if [ -n "$uninstall" ]; then
 fi
 
 mkdir -p "$root"
-# (a folder that nobody else can write to, since root may run this: beside a file of mktemp any user may put a link)
+# (in a directory that only root can write to, because any user may put a link next to a file of mktemp)
 lists=$(mktemp -d)
 trap 'rm -rf "$lists"' EXIT
-# Folders in the order of their names, so that each is made after the one that it is in. Those that were there before
-# stay when all is removed.
+# Directories in the order of their names, so that parents are created first. Those that existed before are not removed
+# later.
 find . -mindepth 1 -type d | sed 's,^\./,,' | sort | while IFS= read -r folder; do
     if [ ! -d "$root/$folder" ]; then
         mkdir "$root/$folder"
@@ -69,21 +69,21 @@ find . -mindepth 1 -type d | sed 's,^\./,,' | sort | while IFS= read -r folder; 
     fi
 done
 touch "$lists/folders"
-# (this script lies in the first level, and is not installed)
+# (this script is in the top directory, and is not installed)
 find . -mindepth 2 ! -type d | sed 's,^\./,,' | sort > "$lists/files"
-# The list comes first, so that what a failure leaves half done can be removed.
+# The list is written first, so that an incomplete installation can be removed.
 {
     cat "$lists/folders" "$lists/files"
     echo share/nizwarf/installed
 } > "$list"
 while IFS= read -r file; do
-    # (so a program that runs stays what it is)
+    # (replaced, not overwritten, because a program may be running)
     rm -f "$root/$file"
     cp -P "$file" "$root/$file"
 done < "$lists/files"
 awk -v prefix="$prefix" '/^prefix=/ { $0 = "prefix=" prefix } { print }' lib/pkgconfig/nizwarf.pc \
     > "$root/lib/pkgconfig/nizwarf.pc"
-# A manager of virtual machines, or of services, finds the program by its full path.
+# Managers of virtual machines and of services use absolute paths.
 for file in share/qemu/vhost-user/60-nizwarf-share.json lib/systemd/system/nizwarf-share@.service; do
     awk -v prefix="${prefix%/}" '{ sub("/usr/local", prefix) } { print }' "$file" > "$root/$file"
 done

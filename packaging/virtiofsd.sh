@@ -47,13 +47,13 @@ name=virtiofsd-nizwarf
 program=/usr/sbin/$name
 page=$packaging/man/$name.8
 
-# The crates whose code is in the program, and their licences.
+# Lists the crates whose code is in the program, with their licences.
 list_crates() {
     (cd "$1/tree" && CARGO_HOME=$1/home cargo tree --offline --prefix none -e normal,no-proc-macro --format '{p}: {l}') \
         | sed -E 's/ \(.*\)//' | sort -u | sed -E '/^(virtiofsd|nizwarf) /d'
 }
 
-# Packs the daemon of a folder: pack FOLDER OUT.
+# Packs the daemon of a directory: pack DIRECTORY OUT.
 pack() {
     local root doc
     root=$(mktemp -d -p "$work")
@@ -62,7 +62,7 @@ pack() {
     mkdir -p "$root/usr/sbin" "$doc" "$root/usr/share/qemu/vhost-user" "$2"
     install -m 755 "$1/nizwarf-virtiofsd" "$root$program"
     strip --remove-section=.comment --remove-section=.note "$root$program"
-    # The number before a description's name says which one comes first: virtiofsd's is 50.
+    # The number before a description's name is its priority: virtiofsd's is 50.
     sed "s,\"/usr/libexec/virtiofsd\",\"$program\"," "$1/tree/50-virtiofsd.json" \
         > "$root/usr/share/qemu/vhost-user/60-$name.json"
     grep -q "\"$program\"" "$root/usr/share/qemu/vhost-user/60-$name.json" || wrong "virtiofsd's description does not name its program"
@@ -87,7 +87,7 @@ pack "$folder" "$work/out"
 if [ -n "$check" ]; then
     part "the same again in another directory, for comparison"
     mkdir "$work/again"
-    # (downloaded once)
+    # (so that the crates are downloaded once)
     ln -s "$folder/crates" "$work/again/crates"
     "$here/tools/virtiofsd.sh" "$work/again" > /dev/null
     pack "$work/again" "$work/compared"

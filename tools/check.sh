@@ -27,16 +27,16 @@ set -euo pipefail
 cd "$here"
 
 parts=(documents edits numbers shell rattle rust python c format codec crate)
-# What a part runs, by its package. The toolchain is none of Debian's.
+# The commands of each part. The toolchain is not a package of Debian.
 declare -A wanted=(
     [documents]="rt python3" [edits]="bash" [numbers]="python3 cc" [shell]="shellcheck" [rattle]="rt"
     [rust]="rustfmt" [python]="pyflakes3"
     [c]="cc make python3" [format]="clang-format" [codec]="rt cc pytest-3" [crate]="cargo rt cc"
 )
-# (a program that isn't here is in the package of its name)
+# (other commands are in the package of the same name)
 declare -A package=([cc]="gcc libc6-dev" [pytest-3]="python3-pytest" [rt]="")
 
-# The programs of a part that are not there.
+# Prints the commands of a part that are not installed.
 missing_of() {
     local program
     for program in ${wanted[$1]}; do
@@ -44,7 +44,7 @@ missing_of() {
     done
 }
 
-# The packages of Debian that these parts lack.
+# Prints the packages of Debian that these parts lack.
 packages_for() {
     local part
     for part in "$@"; do
@@ -79,27 +79,28 @@ done
 folder=$(mktemp -d)
 trap 'rm -rf "$folder"' EXIT
 
-# Files that are there, known to git or new, by their ends.
+# Prints existing files that git tracks or that are new, by patterns.
 files() {
     git ls-files --cached --others --exclude-standard -z -- "$@" | xargs -0r ls -d -- 2> /dev/null || true
 }
 
-# Runs a command for pieces of a list of files, as many at once as there are processors.
+# Runs a command for parts of a list of files, in as many processes as there are processors.
 each() {
-    # (names from `files`, a line each)
+    # (the list has a file in each line)
     tr '\n' '\0' | xargs -0r -n 8 -P "$(nproc)" "$@"
 }
 
 scripts() { files '*.sh' .ci/run packaging/nizwarf-decode packaging/nizwarf-demo; }
 c_files() { files '*.c' '*.h'; }
 
-# ---- The parts. Each is judged, so `set -e` means nothing in it, and a step whose failure counts says so itself.
+# ---- The parts. A part is called in a condition, so `set -e` has no effect in it, and a step that may fail must return.
 
 check_documents() { tools/dev/documents.sh; }
 check_edits() { tests/edits/run.sh --texts; }
 check_numbers() { tools/dev/numbers.py; }
 check_shell() { scripts | each shellcheck; }
-# (one by one from the input: some name modules that are elsewhere; and in their folder, for its rustfmt.toml)
+# (one file at a time from standard input, because some name modules that are elsewhere; and in its directory, for
+# rustfmt.toml)
 # shellcheck disable=SC2016
 check_rust() { files '*.rs' | each -n 1 bash -c 'cd "${0%/*}" && rustfmt --check --color never < "${0##*/}" || { echo "$0" && exit 1; }'; }
 check_python() { files '*.py' | each pyflakes3; }
@@ -119,7 +120,7 @@ check_format() { c_files | each clang-format --dry-run -Werror; }
 check_c() {
     local known
     known=$(files '*.c')
-    # (what needs a header that is not here is built where that is)
+    # (files that need a missing header are compiled where it is installed)
     [ -e /usr/include/fuse3/fuse_lowlevel.h ] || known=$(xargs grep -LE '#include [<"]fuse_lowlevel' <<< "$known")
     # shellcheck disable=SC2016
     each -n 1 bash -c '
@@ -133,19 +134,19 @@ check_crate() {
     export NIZWARF_LIB_DIR=$here/out/rust/lib
     find_library nizwarf_codec
     mkdir -p "$NIZWARF_LIB_DIR"
-    # (without the library an older one would be tested, which is there)
+    # (otherwise an older library there would be tested)
     cp -u "$archive" "$heap" "$NIZWARF_LIB_DIR" || return
     (cd bindings/rust && cargo test --quiet --offline)
 }
 
-# The libraries are built beside the first parts.
+# The libraries are built while the first parts run.
 if [[ " ${parts[*]} " =~ \ (codec|crate)\  ]] && [ -z "$(missing_of codec)" ]; then
     (find_library nizwarf_codec && find_library nizwarf_tree) > "$folder/libraries" 2>&1 &
 fi
 failed=() skipped=() times=() number=0
 for part in "${parts[@]}"; do
     number=$((number + 1))
-    # (paste ends even an empty line, so that read has one)
+    # (paste prints an empty line too, so that read has one)
     read -ra missing < <(missing_of "$part" | paste -sd ' ')
     if [ ${#missing[@]} != 0 ]; then
         echo "$number of ${#parts[@]}: $part is skipped, because these are missing: ${missing[*]}"
@@ -154,7 +155,7 @@ for part in "${parts[@]}"; do
     fi
     echo "$number of ${#parts[@]}: $part .."
     begun=$SECONDS
-    # (what is built beside must be there)
+    # (the libraries must be finished)
     case $part in codec | crate) wait ;; esac
     if ! "check_$part" > "$folder/said" 2>&1 < /dev/null; then
         cat "$folder/said"

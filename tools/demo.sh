@@ -15,7 +15,7 @@ build_programs vfs_demo vfs_decode
 
 answers=$(mktemp)
 trap 'rm -f "$answers"' EXIT
-# (told after what it wrote)
+# (a failure is reported after the output)
 status=0
 # shellcheck disable=SC2154
 "$(path_of vfs_demo)" < "$crate/stdin" > "$answers" || status=$?

@@ -55,26 +55,26 @@ cp "$here/tests/programs/session.sh" "$root/"
 printf '%s\n' "modules='$modules'" "shared='$shared'" > "$root/settings"
 pack_guest "$root" "$work/files"
 
-# In the background, so that a signal ends it at once, and them with it.
+# In the background, so that a signal ends this script at once, and its processes too.
 words=("$work/socket") queues=2
 if [ -n "$shared" ]; then
-    # (in memory where that is a file system, as what must come is of one)
+    # (in memory if possible, because the expected output is that of a tmpfs)
     folder=$(mktemp -d -p "$(if [ -d /dev/shm ]; then echo /dev/shm; else echo /tmp; fi)")
     trap 'kill "${started[@]}" 2> /dev/null || true; rm -rf "$work" "$folder"' EXIT
     chmod 755 "$folder"
     words=("--socket-path=$work/socket" --writeback --xattr "$folder")
     if [ "$by" = --virtiofsd ]; then
-        # virtiofsd takes the folder by an option, and has one queue for requests.
+        # virtiofsd's directory is an option, and it has one queue for requests.
         words=("${words[@]::3}" --shared-dir "$folder" --killpriv-v2) queues=1
     fi
 fi
-# Half an hour, in which a guest that QEMU computes is done many times over.
+# Half an hour is several times as long as an emulated guest takes.
 timeout 1800 "$transport" "${words[@]}" &
 transport_id=$!
 started+=("$transport_id")
 await_listener "$work/socket" "$transport_id"
 began=$SECONDS
-# (so that tail has a file before QEMU makes it)
+# (tail needs the file before QEMU creates it)
 : > "$work/console"
 timeout -k 5 1790 qemu-system-x86_64 -nodefaults -no-user-config -display none \
     -machine q35,accel=tcg -cpu max -smp 1 -m 256 \
@@ -84,14 +84,14 @@ timeout -k 5 1790 qemu-system-x86_64 -nodefaults -no-user-config -display none \
     -device vhost-user-fs-pci,queue-size=1024,num-request-queues=$queues,chardev=socket,tag=nizwarf < /dev/null &
 guest_id=$!
 started+=("$guest_id")
-# (ends with QEMU)
+# (tail ends with QEMU)
 tail -n +1 -f -s 0.2 --pid "$guest_id" "$work/console" &
 shown_id=$!
 started+=("$shown_id")
 status=0
 wait "$guest_id" || status=$?
 wait "$shown_id" || true
-# It goes on when QEMU has gone.
+# The transport does not end with QEMU.
 kill -TERM "$transport_id" 2> /dev/null || true
 wait "$transport_id" || status=$?
 started=()

@@ -72,7 +72,7 @@ folder=$(realpath -m "${folder:-$here/out/libfuse}")
 mkdir -p "$folder"
 [ "$kind" = unmodified ] || find_library nizwarf_codec
 
-# The sources of the package, with Debian's changes. (`set -e` means nothing where a function is judged)
+# Downloads the sources of the package, with Debian's changes. (`set -e` has no effect where a function is a condition.)
 fetch() {
     local part=$folder/part-$suite change
     rm -rf "$part"
@@ -98,10 +98,10 @@ if [ ! -e "$source" ]; then
         exit 2
     }
 fi
-# The number in the library's file name: that of meson.build, or if it takes it from elsewhere, of Debian's version.
+# The version in the library's file name: that of meson.build, or Debian's version if it is not there.
 number=$(sed -nE "s/^project\('libfuse3'.*version: '([0-9.]+)[^']*'.*/\1/p" "$source/meson.build")
 [ -n "$number" ] || number=$(sed 's/-.*//' "$source/debian-version")
-# A folder for each suite, kind and sanitizer; what is made of the machine's suite with the layer is in FOLDER/lib.
+# A directory for each suite, kind and sanitizer. The library of the machine's suite over this layer is in DIRECTORY/lib.
 work=$folder/$suite-$kind
 [ "$sanitize" = none ] || work=$work-${sanitize//,/-}
 [ "$ring" = false ] || work=$work-io-uring
@@ -110,12 +110,12 @@ if [ "$suite $kind $sanitize" != "$(sed -n 's/^VERSION_CODENAME=//p' /etc/os-rel
     lib=$work/lib
 fi
 
-# Copies a file if the other is not the same, so that its time stays where nothing changed.
+# Copies a file unless the other one is the same, so that the time of an unchanged file stays.
 renew() {
     cmp -s "$1" "$2" || cp "$1" "$2"
 }
 
-# Puts what is here into the copy of libfuse's sources.
+# Puts the files of bindings/libfuse into the copy of libfuse's sources.
 replace() {
     local file archives=() sanitizer=()
     [ "$sanitize" = none ] || sanitizer=("-fsanitize=$sanitize")
@@ -127,7 +127,7 @@ replace() {
     for file in "$here"/bindings/libfuse/*.h "$here"/include/nizwarf.h; do
         renew "$file" "$work/tree/lib/${file##*/}"
     done
-    # The C files of the library, as an archive: of these objects, the linker takes those that libfuse uses.
+    # The C files of the library become an archive, of which the linker takes those objects that libfuse uses.
     rm -rf "$work/objects" && mkdir "$work/objects" || return 1
     compile_sources "$work/objects" -O2 "${sanitizer[@]}" || return 1
     ar rcsD "$work/objects/libnizwarf_c.a" "$work"/objects/*.o || return 1
@@ -135,7 +135,7 @@ replace() {
         renew "$file" "$work/tree/lib/${file##*/}"
         archives+=("'$work/tree/lib/${file##*/}'")
     done
-    # All are linked into libfuse's own library, which is made anew if one of these changes.
+    # All of them are linked into libfuse's own library, which is built again if one of these changes.
     sed -E "s#link_args: \['-Wl,--version-script,'#link_args: [$(IFS=, && echo "${archives[*]}"), '-Wl,--version-script,'#
         s#link_depends: 'fuse_versionscript'#link_depends: ['fuse_versionscript', '${archive##*/}', 'libnizwarf_c.a']#" \
         "$source/lib/meson.build" > "$work/meson.build"
@@ -147,16 +147,16 @@ replace() {
 }
 
 build() {
-    # Nothing is installed, but the library has paths of helpers in it, as /usr/bin/fusermount3.
+    # Nothing is installed, but the library contains paths of helpers, such as /usr/bin/fusermount3.
     local options=(--prefix=/usr -Duseroot=false "-Dudevrulesdir=$work/udev" "-Db_sanitize=$sanitize" -Db_lundef=false)
     local option known
     known=$(cat "$source"/meson_options.txt "$source"/meson.options 2> /dev/null || true)
-    # What a version has besides: a ring of the kernel's, which the layer doesn't serve, and sessions over sockets.
+    # Options that only some versions have: io_uring, which the layer does not serve, and sessions over sockets.
     for option in enable-io-uring=$ring enable-custom-io=true; do
         [[ $known != *"'${option%=*}'"* ]] || options+=("-D$option")
     done
     mkdir -p "$work"
-    # (half a copy would be taken for a whole one by the next run)
+    # (an interrupted copy must not be taken for a complete one)
     [ -e "$work/tree" ] || { rm -rf "$work/tree.part" && cp -R "$source" "$work/tree.part" && mv "$work/tree.part" "$work/tree"; } || return 1
     [ "$kind" = unmodified ] || replace || return 1
     [ -e "$work/build/build.ninja" ] || meson setup "$work/build" "$work/tree" "${options[@]}" || return 1
@@ -171,7 +171,7 @@ echo "Building libfuse $(cat "$source/debian-version") of $suite, $kind .." >&2
 quietly "$folder/said-$suite" build || exit 1
 [ "$kind" = unmodified ] || cat "$work/left-out" >&2
 mkdir -p "$lib"
-# A program that runs stays what it is.
+# The library is replaced, not overwritten, because programs may run with it.
 for it in "$work"/build/lib/libfuse3.so.*[0-9]; do
     name=$(readelf -d "$it" | sed -nE 's/.*SONAME.*\[(.*)\].*/\1/p')
     cp "$it" "$lib/$name.new"

@@ -48,7 +48,7 @@ while [[ ${1:-} == -* ]]; do
             shift
             ;;
         --check)
-            # (no options before it; the library as it is)
+            # (it must be the only option, because the tests use nizwarf_tree)
             [ "${#options[@]} $name" = "0 nizwarf_tree" ] || usage "--check cannot be combined with other options"
             need pytest-3 "To install it: apt-get install python3-pytest"
             exec pytest-3 "$here"/tests/programs/test_mount{,_files}.py "${@:2}"
@@ -67,7 +67,7 @@ if [ ! -d "$1" ]; then
     echo "mount.sh: '$1' is not a directory" >&2
     exit 2
 fi
-# (the kernel's list of mounts has full paths without links)
+# (/proc/self/mounts has absolute paths without links)
 folder=$(realpath "$1")
 build_transport mount "$name"
 echo "Mounting on $folder: \`umount $folder\` or Ctrl-C unmounts it." >&2

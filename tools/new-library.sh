@@ -22,14 +22,13 @@ usage() {
 [[ $# = 1 || $tree =~ ^[a-z][a-z0-9_]*$ ]] || usage
 if [ -e "crates/$name" ] || [ -e "tools/lib/unproved/$name" ]; then usage; fi
 
-# Gives the copy of a crate its own name, and a line of crates.txt after that crate's.
+# Replaces the name of a crate in its copy, and adds a line to crates.txt after that crate's.
 name_copy() {
     grep -rl "$1" "crates/$2" | xargs sed -i "s/\b$1\b/$2/g"
     sed -i "/^$1\b/{p;s/^$1/$2/}" crates.txt
 }
 
-# A crate with the tree of example_tree, without its client, and without its callers and edits, which are of those
-# three files.
+# Creates a crate with the tree of example_tree, without its client, callers and edits.
 new_tree() {
     mkdir -p "crates/$tree"
     cp -R crates/example_tree/{src,specs} "crates/$tree/"
@@ -42,7 +41,7 @@ new_tree() {
     echo "The tree is in crates/$tree/src/lib.rt, and its contents in crates/$tree/specs/Docs.antt."
 }
 
-# The words of a tree: its type, that of its tables, and the file that has these.
+# Sets the names of a tree: its type, that of its tables, and the module of these.
 words_of_tree() {
     type=$(sed -n 's/^impl ReadTree for \(\w*\) {$/\1/p' "crates/$tree/src/lib.rt")
     tables=$(sed -n 's/^ *ghost tables = { λ \w*\. \(\w*\) };$/\1/p' "crates/$tree/src/lib.rt")
@@ -54,28 +53,29 @@ words_of_tree() {
     fi
 }
 
-# A library as nizwarf_tree: what has `tree` in its path there is of the tree in memory alone, as is an edit of its file system.
+# Creates a library as a copy of nizwarf_tree, without the files of the tree in memory, whose paths contain `tree`, and
+# without edits of its file system.
 new_library() {
     mkdir "crates/$name" "tools/lib/unproved/$name"
     cp -R crates/nizwarf_tree/{src,specs,proofs,must-fail} "crates/$name/"
     cp tools/lib/unproved/nizwarf_tree/* "tools/lib/unproved/$name/"
     rm -r "crates/$name"/{src,specs,proofs}/[Tt]ree*
     sed -i '/^\(pub \)\?mod [Tt]ree/d' "crates/$name"/{src/lib.rt,specs/Lib.antt,proofs/Lib.antt}
-    # (today there is none)
+    # (at present there are none)
     grep -l '^file: src/files.rt$' "crates/$name"/must-fail/*.edit | xargs -r rm || true
     name_copy nizwarf_tree "$name"
     sed -i "/^$name\b/s/ laws_tree\b//" crates.txt
 }
 
-# Puts the tree in the place of the tree in memory, by the two files of lib/read_only_library, without the proof of its
-# answers to rows.
+# Replaces the tree in memory by the tree, by the two files of lib/read_only_library, and removes the proof of the replies
+# of the tree in memory.
 over_tree() {
     local file
     for file in src/files.rt specs/Files.antt; do
         sed "s/\bNAME\b/$name/g; s/\bTREE\b/$tree/g; s/\bTYPE\b/$type/g; s/\bTABLES\b/$tables/g; s/\bMODULE\b/$module/g" \
             "tools/lib/read_only_library/${file##*/}.in" > "crates/$name/$file"
     done
-    # (the proof of the tree in memory's answers)
+    # (the proof of the replies of the tree in memory)
     rm -r "crates/$name"/proofs/{files,Texts.antt}
     sed -i '/^mod Texts$/d' "crates/$name/proofs/Lib.antt"
     sed -i "/^$name\b/s/ fs_tree\b/ fs_small $tree/" crates.txt

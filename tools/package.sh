@@ -62,17 +62,17 @@ need make "To install it: apt-get install make"
 need gzip "To install it: apt-get install gzip"
 need python3 "To install it: apt-get install python3"
 
-# How C is compiled, in libraries and programs.
+# The compiler options of libraries and programs.
 hardened=(-O2 -D_FORTIFY_SOURCE=2 -fstack-protector-strong -fstack-clash-protection -fcf-protection
     "-ffile-prefix-map=$here=.")
-# The programs, as programs/Makefile lists them; and what Debian calls this kind of machine.
+# The programs, as programs/Makefile lists them; and Debian's name of this kind of machine.
 programs=$(make -s -f "$here/programs/Makefile" list)
 triplet=x86_64-linux-gnu
 work=$(mktemp -d)
 trap 'rm -rf "$work"' EXIT
 
-# Finds what is packed, as `packed` the static libraries and as `code` the C files, and sets `proved` by whether all of the
-# first is.
+# Finds the parts of the packages: `packed` are the static libraries, `code` the C files, and `proved` is set if all
+# libraries are proved.
 find_parts() {
     local name parts=(nizwarf_codec nizwarf_tree nizwarf_border)
     [ -z "$demo" ] || parts+=(vfs_demo vfs_decode)
@@ -94,16 +94,16 @@ find_parts() {
     tell_build "${parts[@]}" > "$work/build-info"
 }
 
-# Joins a library and what it needs to one object, in which the library's own names alone are global:
-# join_library LIBRARY OBJECT.
+# Links a library and its dependencies to one object, in which only the library's own names are global: join_library
+# LIBRARY OBJECT.
 join_library() {
-    # (so that the two libraries, which stand on the same crates, don't share names)
+    # (because the two libraries share crates, but must not share names)
     ld -r -o "$2" --whole-archive "$1" --no-whole-archive "$heap"
     objcopy --wildcard --keep-global-symbol='nizwarf_*' --strip-unneeded --remove-section=.comment \
         --remove-section='.note.gnu*' --remove-section=.llvm_addrsig --remove-section='.rela.llvm_addrsig' "$2"
 }
 
-# The functions that the headers declare, or all that they have, inline ones too.
+# The functions that the headers declare; and those with inline functions.
 declared() {
     sed -nE '/^static /d; s/^([a-z]\w* )+(nizwarf_\w+)\(.*/\2/p' "$here"/include/*.h | sort
 }
@@ -111,7 +111,7 @@ functions() {
     { declared && sed -nE 's/^static inline .*\b(nizwarf_\w+)\(.*/\1/p' "$here"/include/*.h; } | sort
 }
 
-# Makes the two libraries in a folder.
+# Makes the two libraries in a directory.
 make_libraries() {
     local folder=$1 others needed sources=("${code[@]}")
     mkdir -p "$folder" "$work/objects"
@@ -129,7 +129,7 @@ make_libraries() {
     ln -sf "$soname.${release#*.}" "$folder/$soname"
     ln -sf "$soname" "$folder/libnizwarf.so"
 
-    # (three words: address, kind, name)
+    # (three fields: address, type, name)
     others=$(nm --defined-only --extern-only "$folder/libnizwarf.a" | awk 'NF == 3 && $3 !~ /^nizwarf_/ { print $3 }' | paste -sd ' ')
     [ -z "$others" ] || wrong "symbols of libnizwarf.a do not begin with nizwarf_: $others"
     needed=$(needed_by "$folder/$soname" | paste -sd ' ')
@@ -140,12 +140,12 @@ make_libraries() {
     [ -z "$others" ] || wrong "$soname and packaging/nizwarf.map differ in: $others"
 }
 
-# The functions of the map, each with its node, as NAME@NODE.
+# The functions of the version script, as NAME@NODE.
 mapped() {
     awk '/^NIZWARF_/ { node = $1 } /^\tnizwarf_/ { sub(";", "", $1); print $1 "@" node }' "$packaging/nizwarf.map"
 }
 
-# The functions that a shared library exports, likewise.
+# The functions that a shared library exports, in the same form.
 exported() {
     nm -D --defined-only "$1" | awk '$2 == "T" { sub("@@", "@", $3); print $3 }' | sort
 }
@@ -158,7 +158,7 @@ for_programs() {
     done
 }
 
-# Builds the programs into a folder: put_programs FOLDER LIBRARY.
+# Builds the programs in a directory: put_programs DIRECTORY LIBRARY.
 put_programs() {
     mkdir -p "$1"
     # shellcheck disable=SC2086
@@ -170,17 +170,17 @@ strip_program() {
     strip --remove-section=.comment --remove-section=.note "$1/$2"
 }
 
-# The page of a program.
+# Prints the path of a program's manual page.
 page_of() {
     echo "$packaging/man/$1".[18]
 }
 
-# Names a program in a folder that has another name in its usage, or another version: misnamed FOLDER NAME.
+# Prints the name of a program whose usage or version has another name: misnamed DIRECTORY NAME.
 misnamed() {
     { [[ $("$1/$2" --version) == "$2 $release, "* ]] && [[ $("$1/$2" --help) == "Usage: $2 "* ]]; } || echo "$2"
 }
 
-# Names words that --help of a program in a folder lists and its page lacks: unexplained FOLDER NAME.
+# Prints options of a program's --help that its manual page lacks: unexplained DIRECTORY NAME.
 unexplained() {
     local word page
     page=$(sed 's/\\-/-/g' "$(page_of "$2")")
@@ -189,7 +189,7 @@ unexplained() {
     done
 }
 
-# Puts nizwarf-demo and nizwarf-decode below a folder, with their programs and the stored session.
+# Installs nizwarf-demo and nizwarf-decode below a directory, with their programs and the stored session.
 put_demo() {
     local name
     [ -n "$demo" ] || return 0
@@ -207,14 +207,14 @@ put_demo() {
     install -m 644 "$session/stdout" "$1/share/nizwarf/answers"
 }
 
-# Puts the examples and the programs, with their Makefile, into a folder.
+# Installs the examples and the programs, with their Makefile, in a directory.
 put_examples() {
     mkdir -p "$1"
     install -m 644 "$here/programs/Makefile" "$here"/examples/c/*.c "$1/"
     (cd "$here/programs" && find . -name '*.[ch]' -exec install -Dm 644 {} "$1/{}" \;)
 }
 
-# Puts a page into a folder, if what it is of is packed. A page of functions has links, by the names of its
+# Installs a manual page in a directory, if its program is packed. A page of functions gets links with the names of its
 # section NAME.
 put_page() {
     local page=$1 folder=$2 name=${1##*/} section=${1##*.} function
@@ -232,8 +232,8 @@ put_page() {
     esac
 }
 
-# Puts what the system starts nizwarf-share by below a folder: the name that mount(8) looks for, with a page, and units
-# of systemd.
+# Installs the files by which the system starts nizwarf-share below a directory: the name that mount(8) looks for, with a
+# page, and the units of systemd.
 put_system() {
     local helper=mount.fuse.nizwarf-share
     mkdir -p "$1/sbin"
@@ -242,12 +242,12 @@ put_system() {
     install -Dm 644 "$packaging"/systemd/* -t "$1/lib/systemd/system"
 }
 
-# Names a program whose page is not below a folder: page_missing FOLDER NAME.
+# Prints the name of a program without a manual page below a directory: page_missing DIRECTORY NAME.
 page_missing() {
     compgen -G "$1/man[18]/$2.[18]" > /dev/null || echo "$2"
 }
 
-# The tree of the tarball, into a folder. The programs stand alone.
+# Makes the tree of the tarball in a directory. Its programs do not need the shared library.
 make_tree() {
     local tree=$1 page missing
     mkdir -p "$tree"/{include,lib/pkgconfig,share/doc/nizwarf,share/man,share/nizwarf}
@@ -281,12 +281,12 @@ make_tree() {
 make_tarball() {
     local tree=$1 name=nizwarf-$version-linux-x86_64
     set_times "$tree"
-    # (the same bytes, whoever makes it)
+    # (the bytes do not depend on the user)
     tar --sort=name --owner=0 --group=0 --numeric-owner --format=gnu --transform "s,^\.,$name," -C "$tree" -cf - . \
         | gzip -9n > "$2/$name.tar.gz"
 }
 
-# The packages of Debian, from the tree of the tarball. Programs link the shared library there.
+# Makes the packages of Debian from the tree of the tarball. Their programs link the shared library.
 make_debs() {
     local tree=$1 folder=$2 out=$3 lib=usr/lib/$triplet root script
     root=$folder/libnizwarf1
@@ -296,9 +296,9 @@ make_debs() {
     {
         echo "$soname libnizwarf1 #MINVER#"
         echo "* Build-Depends-Package: libnizwarf-dev"
-        # (a node of NIZWARF_0.4 came with 0.4.0)
+        # (functions of the node NIZWARF_0.4 are in 0.4.0 and later)
         sed -nE 's/^(NIZWARF_([0-9.]+)) \{$/ \1@\1 \2.0~/p' "$packaging/nizwarf.map"
-        # (~: an earlier build, as ~unproved, is enough)
+        # (~ includes earlier builds such as ~unproved)
         exported "$root/$lib/$soname" | sed -E 's/^(.*@NIZWARF_(.*))$/ \1 \2.0~/'
     } > "$root/DEBIAN/symbols"
     echo "activate-noawait ldconfig" > "$root/DEBIAN/triggers"
@@ -330,7 +330,7 @@ make_debs() {
     make_deb nizwarf "$root" "$out"
 }
 
-# Makes all that there is to make, into a folder.
+# Makes everything in a directory.
 make_all() {
     local folder
     folder=$(mktemp -d -p "$work")
@@ -368,7 +368,7 @@ if [ -n "$check" ]; then
     fi
 fi
 mkdir -p "$out"
-# (of an older version: what lies there is one version)
+# (the directory must contain only one version)
 rm -f "$out"/{libnizwarf1,libnizwarf-dev,nizwarf}_*.deb "$out"/nizwarf-*.tar.gz
 mv "$work"/out/* "$out/"
 (cd "$out" && stat -c '%8s  %n' ./*nizwarf* | sed 's,\./,,')

@@ -35,7 +35,7 @@ done
 lines=$(realpath "$1")
 expected=${2:+$(realpath "$2")}
 
-# (only what shows messages needs vfs_decode)
+# (vfs_decode is only needed to show messages)
 programs=(vfs_demo)
 if [ -z "$expected" ] && [ -z "$bytes" ]; then
     programs+=(vfs_decode)
@@ -61,13 +61,14 @@ if cmp -s "$answers" "$expected"; then
     exit
 fi
 
-# (`.. differ: byte N, line M`; if one is the beginning of the other, `EOF on ..`, and the next line differs)
+# (cmp prints `.. differ: byte N, line M`; or `EOF on ..` if one is the beginning of the other, and then the next line
+# differs)
 at=$(cmp "$answers" "$expected" 2>&1 | sed -nE 's/.* line ([0-9]+)$/\1/p') || true
 if [ -z "$at" ]; then
     at=$(($(wc -l < "$answers") + 1))
 fi
 
-# A first line that sets the limit has no answer, unless it is the bad one.
+# A first line that sets the limit has no reply, unless it is invalid.
 asked=$at
 if [[ $(head -n 1 "$lines") == 'limit '* && $(head -n 1 "$answers") != 'bad line 1' ]]; then
     asked=$((at + 1))

@@ -31,5 +31,5 @@ case $#:${1:-} in
         ;;
 esac
 build_transport share nizwarf_codec
-# (in its place, so that signals are the program's)
+# (exec, so that signals are sent to the program)
 exec "$transport" "$@"

@@ -63,7 +63,7 @@ fi
 make_folder
 mkdir -p "$folder/link" "$folder/lib" "$folder/home"
 
-# Lets the linker find a library that is installed without its package for development.
+# Lets the linker find a library that is installed without its development package.
 link_library() {
     local name=$1 package=$2 it
     # (a line of ldconfig: a tab, libNAME.so.N, kinds in brackets, => and the path)
@@ -75,12 +75,12 @@ link_library() {
     ln -sfn "$it" "$folder/link/lib$name.so"
 }
 
-# These are linked by their names without a version, which packages for development have.
+# They are linked by names without a version, which only development packages have.
 link_library cap-ng libcap-ng0
 link_library seccomp libseccomp2
 [ -n "$unmodified" ] || find_library nizwarf_codec
 
-# Copies a file if the other is not the same, so that its time stays where nothing changed.
+# Copies a file unless the other one is the same, so that the time of an unchanged file stays.
 renew() {
     cmp -s "$1" "$2" || cp "$1" "$2"
 }
@@ -89,7 +89,7 @@ fetch() {
     local packages part=$folder/part
     rm -rf "$part"
     use_suite trixie "$part/apt" || return
-    # virtiofsd's own package, and those that it wants: of these the sources alone.
+    # virtiofsd's own package, and the sources of its dependencies.
     mapfile -t packages < <(apt-get "${apt[@]}" install -y -s --no-install-recommends librust-virtiofsd-dev |
         sed -nE 's/^Inst (librust-[^ ]+) .*/\1/p')
     [ ${#packages[@]} -gt 0 ] || return
@@ -112,7 +112,7 @@ if [ ! -e "$from" ]; then
     exit 2
 fi
 
-# The crate, as it is, or with its protocol layer replaced.
+# The crate, unmodified or with its protocol layer replaced.
 tree=$folder/tree daemon=$folder/nizwarf-virtiofsd
 if [ -n "$unmodified" ]; then
     tree=$folder/unmodified daemon=$folder/virtiofsd
@@ -121,7 +121,7 @@ if [ ! -e "$tree/Cargo.toml" ]; then
     mkdir -p "$tree/.cargo"
     cp -R "$from/src" "$tree/"
 fi
-# (packaging/virtiofsd.sh takes its description from there)
+# (for packaging/virtiofsd.sh)
 cp -u "$from/50-virtiofsd.json" "$tree/"
 cp "$from/Cargo.toml" "$folder/Cargo.toml"
 needed=("$tree/src" "$tree/Cargo.toml" "$here/tools/virtiofsd.sh")
@@ -136,17 +136,17 @@ if [ -z "$unmodified" ]; then
     needed+=("$folder/lib" "$here"/bindings/rust/{src,build.rs,Cargo.toml})
 fi
 renew "$folder/Cargo.toml" "$tree/Cargo.toml"
-# cargo takes crates from this folder alone, and asks no network.
+# cargo uses only the crates of this directory, and no network.
 printf '[source.crates-io]\nreplace-with = "debian"\n[source.debian]\ndirectory = "%s"\n[net]\noffline = true\n' \
     "$crates" > "$tree/.cargo/config.toml"
 
-# Shows how far cargo is.
+# Prints cargo's progress.
 show_progress() {
     tee "$folder/said" | awk '/^ *Compiling/ && ++n % 25 == 0 { print n " crates compiled" > "/dev/stderr" }'
 }
 
-# One codegen unit, so that what is inlined does not hang on how a crate happens to be cut. The folders are not told, so
-# that the same bytes come of another one.
+# With one codegen unit, inlining does not depend on how a crate is divided. Paths are remapped, so that the result does
+# not depend on the directory.
 run_cargo() {
     cd "$tree"
     CARGO_PROFILE_RELEASE_CODEGEN_UNITS=1 CARGO_HOME=$folder/home CARGO_TARGET_DIR=$folder/target LIBRARY_PATH=$folder/link \
@@ -161,7 +161,7 @@ build_failed() {
 if [ ! -e "$daemon" ] || [ -n "$(find "${needed[@]}" -newer "$daemon" -print -quit)" ]; then
     echo "Building virtiofsd .." >&2
     (run_cargo build) || build_failed
-    # A daemon that runs stays what it is.
+    # The daemon is replaced, not overwritten, because it may be running.
     cp "$folder/target/release/virtiofsd" "$daemon.new"
     mv "$daemon.new" "$daemon"
 fi

@@ -29,14 +29,14 @@ for flags in "" -flto; do
         "${library[@]}"
 done
 
-# Prints how many instructions a run takes: counted PROGRAM WORD.. Valgrind counts `rep movsb`, by which glibc copies some KiB and
-# more, once for each byte, so glibc copies by vectors here.
+# Prints the number of instructions of a run: counted PROGRAM ARGUMENT.. Valgrind counts `rep movsb`, by which glibc copies some
+# KiB and more, once for each byte, so glibc copies with vectors here.
 counted() {
     GLIBC_TUNABLES=glibc.cpu.x86_rep_movsb_threshold=1000000000 valgrind --tool=callgrind \
         --callgrind-out-file="$folder/counted" "$@" 2>&1 | sed -n 's/.*Collected : \([0-9]*\).*/\1/p'
 }
 
-# Prints those of one request: instructions PROGRAM CLASS [ask]
+# Prints the number of instructions of one request: instructions PROGRAM CLASS [ask]
 instructions() {
     echo $((($(counted "$1" "$2" 300 "${@:3}") - $(counted "$1" "$2" 100 "${@:3}")) / 200))
 }

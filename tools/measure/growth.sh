@@ -42,7 +42,7 @@ folder=$here/out/c
 cc -std=c11 -O2 -Wall -Wextra -Werror -o "$folder/pace" "$here/tools/measure/pace.c"
 # shellcheck disable=SC2119
 own_work
-# (no limit of inodes: each file is one)
+# (without a limit of inodes, because each file is one)
 mount -t tmpfs -o nr_inodes=0,size=90% growth "$work"
 echo "Measured on $(LC_ALL=C date '+%-d %B %Y') at commit $(git -C "$here" describe --always --dirty --exclude '*'), \
 $(library_kind nizwarf_codec nizwarf_border); Linux $(uname -r), $(nproc) processors, load $(cut -d ' ' -f 1-3 /proc/loadavg); \

@@ -78,11 +78,11 @@ least() {
     sort -n | sed -n 1p
 }
 
-# How many instructions a request takes: those of 3000 less those of 1000, by 2000.
+# Prints the number of instructions of a request: the difference between 3000 and 1000 requests, divided by 2000.
 instructions() {
     local n few
     command -v valgrind > /dev/null || return 0
-    # (the difference leaves out what starting and ending takes)
+    # (the difference excludes start and end)
     for n in 1000 3000; do
         LD_LIBRARY_PATH=$1 valgrind --tool=callgrind --callgrind-out-file="$work/out" "$work/speed" "$2" "$n" \
             > /dev/null 2> "$work/said"
@@ -94,7 +94,7 @@ instructions() {
 echo "| Request | ns, libfuse | ns, here | processor | clock | instructions, libfuse | here | ratio |"
 echo "|---|---|---|---|---|---|---|---|"
 for class in lookup getattr read-4k read-1m write-4k write-1m readdir readdirplus; do
-    # How many requests a run has: some tens of milliseconds.
+    # The number of requests of a run, so that it takes some tens of milliseconds.
     times=20000
     [[ $class != readdir* ]] || times=4000
     for _ in $(seq "$rounds"); do

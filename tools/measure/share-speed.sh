@@ -77,14 +77,14 @@ case " ${tables[*]} " in
     *" tree "*) need_proved "$unproved" nizwarf_tree ;;
 esac
 need_proved "$unproved" nizwarf_codec nizwarf_border
-# What is mounted here is in no other namespace, where it would stay in use.
+# Mounts are made in a namespace of their own, because a mount in another namespace would stay in use.
 own_mounts "${given[@]}"
 
 build_transport share nizwarf_codec
 share=$transport
 # (in memory, so that no disk is measured)
 work=$(mktemp -d -p /dev/shm)
-# A run that ends early leaves a mount: without it the server ends by itself.
+# A run that ends early leaves a mount; once it is unmounted, the server ends.
 tidy() {
     umount -lq "$work/mount"
     rm -rf --one-file-system "$work"
@@ -93,13 +93,13 @@ trap 'tidy 2> /dev/null || true' EXIT
 cc -std=c11 -O2 -Wall -Wextra -Werror -o "$work/pace" "$here/tools/measure/pace.c"
 cc -std=c11 -O2 -Wall -Wextra -Werror -o "$work/share_speed" "$here/tools/measure/share_speed.c"
 
-# Writes a server as a line for the measuring programs: line NAME KIND-OR-WORD WORD..
+# Prints a server as a line for the measuring programs: line NAME KIND-OR-ARGUMENT ARGUMENT..
 line() {
     local IFS=$'\t'
     echo "$*"
 }
 
-# Lists Debian's virtiofsd of a suite, whose name has the version: add_virtiofsd SUITE AFTER-NAME WORD..
+# Lists Debian's virtiofsd of a suite, with its version as its name: add_virtiofsd SUITE AFTER-NAME ARGUMENT..
 add_virtiofsd() {
     find_virtiofsd "$1" "$here/out/beside/$1"
     line "$version$2" "${virtiofsd[@]}" "${socket[@]}" "${@:3}"
@@ -110,7 +110,7 @@ socket=('--socket-path={socket}' '--shared-dir={folder}' '--sandbox={sandbox}')
 list_defaults() {
     add_virtiofsd trixie ''
     line nizwarf-share "$share" --log-level=error "${socket[@]}"
-    # (Debian's unstable suite may be out of reach)
+    # (Debian's unstable suite may not be available)
     (add_virtiofsd sid '') || echo "share-speed.sh: Debian's sid is not available: leaving out its virtiofsd" >&2
     if [ -n "$layer" ]; then
         built=$("$here/tools/virtiofsd.sh" --unmodified)
@@ -132,7 +132,7 @@ list_pools() {
     done
 }
 
-# Lists the others over a mount: list_libfuse VERSION FOLDER OPTIONS.. of passthrough_ll and passthrough_hp of a build.
+# Lists passthrough_ll and passthrough_hp of a build: list_libfuse VERSION DIRECTORY OPTIONS..
 list_libfuse() {
     local name=$1 options
     options=$(printf ',%s' "${@:3}")
@@ -144,7 +144,7 @@ list_libfuse() {
     fi
 }
 list_bindfs() {
-    # (with one thread, its default; where more processes wait for it, with several)
+    # (with one thread, its default; with several if more processes use the mount)
     local threads=() lib
     [ "${jobs[1]:-1}" = 1 ] || threads=(--multithreaded)
     lib=$(dirname "$(find "$beside" -name libfuse3.so.3 -print -quit)")
@@ -154,7 +154,7 @@ mount_share() {
     line "$1" "$2" "$share" --log-level=error "${@:3}" '{folder}' '{mount}'
 }
 own_suite=$(sed -n 's/^VERSION_CODENAME=//p' /etc/os-release)
-# Sets where libfuse's examples are, of this machine's suite, with bindfs, and of sid with its ring.
+# Sets the paths of libfuse's examples of this machine's suite, with bindfs, and of sid with io_uring.
 build_libfuse() {
     "$here/tools/libfuse.sh" --unmodified --all > /dev/null
     examples=$here/out/libfuse/$own_suite-unmodified/build/example
@@ -168,7 +168,7 @@ build_ring() {
     ring_libfuse=$(sed 's/-.*//' "$here/out/libfuse/source-sid/debian-version")
 }
 
-# Prints a table, of the servers that a function lists: over_vhost LIST, over_mount LIST
+# Prints a table of the servers that a function lists: over_vhost LIST, over_mount LIST
 over_vhost() {
     "$1" > "$work/servers"
     mkdir -p "$work/vhost"

@@ -44,12 +44,12 @@ if [ ! -e "$library" ] ||
     (cd "$crate" && rt lib > "$folder/said" 2>&1) || { tail -n 20 "$folder/said" >&2 && exit 1; }
 fi
 
-# Both are for the same processors, those of `rt`: x86-64-v2.
+# Both sides are built for the processors of `rt`: x86-64-v2.
 rust=(--edition 2021 -C opt-level=3 -C target-cpu=x86-64-v2 --cap-lints allow
     -L "$beside/fast" --extern "oracle=$beside/fast/liboracle.rlib"
     -C "link-arg=$library" -C "link-arg=$kit/c/liblibc_c.a")
 rustc "${rust[@]}" -o "$folder/beside" "$here/tests/compare/virtiofsd_code/src/bin/beside.rs"
-# The replies of both, by checksums: what differs is not the same work.
+# The replies of both are compared by checksums, because different replies are different work.
 if ! "$folder/beside" "${flags[@]}" --digests > "$folder/digests"; then
     grep DIFFER "$folder/digests" >&2 || echo "speed.sh: cannot compare the replies" >&2
     exit 1
