@@ -354,8 +354,10 @@ int sandbox_enter(enum sandbox sandbox, const char *folder, int *root, int *proc
 	}
 	/* (from here on files are named by these two descriptors, and not by paths) */
 	*root = open(folder, KEEPS_PATH);
-	if (*root < 0)
-		return failed("open the shared directory");
+	if (*root < 0) {
+		transport_say("nizwarf-share", "cannot open '%s': %s", folder, strerror(errno));
+		return -1;
+	}
 	/* (for system calls that require a path, a descriptor is then named by its number) */
 	if (fchdir(*proc))
 		return failed("change to '/proc/self/fd'");

@@ -580,7 +580,8 @@ static void start_rings(struct worker *w, int offered, int32_t code, size_t len)
 	}
 	atomic_store(&d->rings, rings);
 	if (!rings && by->wants_ring)
-		transport_say(by->program, "io_uring is not available: falling back to read(2) and write(2)");
+		transport_say(by->program,
+			      "warning: io_uring is not available: falling back to read(2) and write(2)");
 }
 
 /* What is kept of a request that is answered later. */

@@ -132,7 +132,7 @@ int main(int count, char **words)
 		else if (count > 2)
 			fprintf(stderr, "nizwarf-vhost: unexpected argument '%s'\n", words[2]);
 		else
-			fputs("nizwarf-vhost: missing path of a socket\n", stderr);
+			fputs("nizwarf-vhost: missing socket path\n", stderr);
 		fputs("Try 'nizwarf-vhost --help' for more information.\n", stderr);
 		return 2;
 	}

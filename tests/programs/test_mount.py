@@ -45,7 +45,7 @@ def test_an_option_that_is_wrong_is_refused_by_its_name(tree_mount, scratch, opt
 
 
 @pytest.mark.parametrize("arguments, message", [
-    ([], "missing path of a socket"), (["--no-such-option"], "unrecognized option '--no-such-option'"),
+    ([], "missing socket path"), (["--no-such-option"], "unrecognized option '--no-such-option'"),
     (["socket", "more"], "unexpected argument 'more'")])
 def test_arguments_of_nizwarf_vhost_that_are_wrong_are_refused_by_name(tree_vhost, arguments, message):
     ended = subprocess.run([tree_vhost, *arguments], capture_output=True, text=True, timeout=10)
