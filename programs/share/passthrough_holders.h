@@ -37,7 +37,7 @@ struct holder {
 	struct holder *next;
 };
 
-/* A request that waits for a lock: a fcntl(2) lock of a holder, or a flock(2) lock of an open file. */
+/* A request that waits for a lock: an fcntl(2) lock of a holder, or a flock(2) lock of an open file. */
 struct waiter {
 	struct locks *of;
 	struct holder *holder;

@@ -6,7 +6,7 @@
  * next open file may get before the RELEASE of the earlier one is served. (Then the owner shows that the earlier
  * one is closed, so its lock is released for the later one: unlock_closed.)
  *
- * A fcntl(2) lock belongs to a lock owner. The host keeps it by F_OFD_SETLK for a separate descriptor for each
+ * An fcntl(2) lock belongs to a lock owner. The host keeps it by F_OFD_SETLK for a separate descriptor for each
  * owner and file: a holder. So both are locks against other clients and against programs of the host. The locks
  * that the host has granted are noted in the holder or the open file.
  *
@@ -382,7 +382,7 @@ static int set_flock(const struct call *call, uint32_t type)
 	return error == EAGAIN && call->asked->opcode == NIZWARF_SETLKW ? start_waiter(call, NULL) : error;
 }
 
-/* A fcntl(2) lock, by the holder of its owner. Like Linux, it requires that the file is open for writing for an
+/* An fcntl(2) lock, by the holder of its owner. Like Linux, it requires that the file is open for writing for an
  * exclusive lock, because a client that may only read must not lock out writers. */
 static int set_range(const struct call *call, const nizwarf_lock *lock)
 {
