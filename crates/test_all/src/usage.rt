@@ -73,13 +73,13 @@ fn said(alloc: Global, text: &[u8], number: usize) -> Result<String, Fail> {
 fn tells_usage(alloc: Global) -> Result<bool, Fail> {
     let said = said(alloc, b"16\n", 1)?;
     let limits = format!(in alloc;
-        "tells, {LEAST_MAX_BUFFER} to {GREATEST_MAX_BUFFER}, in 4 to 9 digits. \
-         Without it that is {DEFAULT_MAX_BUFFER}.\n"
+        "{LEAST_MAX_BUFFER} to {GREATEST_MAX_BUFFER}, in 4 to 9 digits. \
+         The default is {DEFAULT_MAX_BUFFER}.\n"
     )?;
     Ok(
         said.starts_with(
-            "bad line 1: it has no space between the rooms and the segments\n\
-             usage: reader < SESSION\n",
+            "bad line 1: missing space after the reply buffers\n\
+             Usage: reader < SESSION\n",
         ) && said.contains(limits.as_str())
             && said.contains(PROGRAM.more_lines),
     )
@@ -93,7 +93,7 @@ fn a_bad_first_line_prints_the_usage(rt: HostRuntime) -> Result<(), Fail> {
 /// Whether of a later bad line no more is printed than what is wrong with it.
 fn tells_why(alloc: Global) -> Result<bool, Fail> {
     let said = said(alloc, b"0 \n16 0\n", 2)?;
-    Ok(said.as_str() == "bad line 2: a segment has an odd number of hex digits\n")
+    Ok(said.as_str() == "bad line 2: odd number of hexadecimal digits in a segment\n")
 }
 
 #[test]

@@ -38,15 +38,15 @@ use vfs_run::{
     Program, USAGE_STATUS, exit_status, greet_terminal, read_all, refuses_arguments, report_session,
 };
 
-/// What the program's usage says of it.
+/// The usage of this program.
 const PROGRAM: Program = Program {
     name: "test_sessions",
-    more_lines: "  answer ANSWER   What the next call is answered: N, fault N, fault none, items ITEM ..
+    more_lines: "  answer ANSWER   The answer to the next call: N, fault N, fault none, items ITEM ..
                   or endless ITEM .., where an ITEM is INO,OFFSET,TYPE,NAME.
   corpus          The corpus of hostile messages, cut, shortened and changed.
-  corpus sessions The same, the cuttings of each form in one session.
-  refusals        Calls that ask for memory; the lines following it are requests of such calls.
-  # ..            Nothing.
+  corpus sessions The same, with all cuttings of a form in one session.
+  refusals        Calls that allocate memory. The lines after it are requests of such calls.
+  # ..            A comment.
 ",
 };
 

@@ -143,5 +143,5 @@ pub fn why_bad_line(text: &[u8], number: usize) -> &'static str {
     if number.saturating_sub(before) % 2 == 1 {
         return why_bad(line);
     }
-    "it is no answer: `ok 0`, `ok N HEX` with N bytes, `err` and a name"
+    "the answer must be `ok 0`, `ok N HEX` with N bytes, or `err NAME`"
 }

@@ -59,7 +59,7 @@ fn greet_terminal(rt: &impl Eprint, input: &impl IsTerminal) -> io::Result<()> {
         return Ok(());
     }
     eprintln!(rt;
-        "vfs_decode reads lines to the end of its input, and decodes them then (--help: which)"
+        "vfs_decode: reading lines from standard input until end of file (see --help)"
     )
 }
 
@@ -88,15 +88,15 @@ fn report(
 fn print_usage(rt: &impl Eprint) -> io::Result<()> {
     eprint!(rt;
         "\
-usage: vfs_decode < LINES
-It takes no arguments. The lines, a request and its answer in turn:
-  limit N         In the first line alone, without an answer.
-  ROOMS SEGMENTS  A request. ROOMS are the lengths in bytes of the segments for its
-                  reply, SEGMENTS its bytes in hex; both are joined by `+`.
+Usage: vfs_decode < LINES
+Prints requests and their answers as text. Lines, a request and its answer in turn:
+  limit N         On the first line only, without an answer.
+  BUFFERS REQUEST A request. BUFFERS are the sizes in bytes of the segments of its reply
+                  buffer, REQUEST its segments in hexadecimal; `+` separates segments.
   ok 0            Its answer: no reply.
-  ok N HEX        A reply of N bytes, in hex.
-  err NAME        A refusal; following EncodeMessage the room's bytes in hex may follow,
-                  following InvalidXattrSize two sizes do.
+  ok N HEX        A reply of N bytes, in hexadecimal.
+  err NAME        A rejection. After EncodeMessage the bytes of the reply buffer may
+                  follow in hexadecimal, after InvalidXattrSize two sizes must.
 "
     )
 }

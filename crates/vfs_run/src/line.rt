@@ -45,30 +45,29 @@ pub fn parse_line(alloc: Global, line: &[u8]) -> Result<Option<Line>, RunError>
     Ok(Some(Line { rooms, segments }))
 }
 
-/// What is wrong with a line that [`parse_line`] does not read, in words.
+/// Why [`parse_line`] does not read a line.
 pub fn why_bad(line: &[u8]) -> &'static str {
     let Some(space) = first_space(line) else {
-        return "it has no space between the rooms and the segments";
+        return "missing space after the reply buffers";
     };
     match &line[..space] {
-        b"limit" => return "a limit is 4096 to 134217728 in 4 to 9 digits, in the first line alone",
-        b"answer" =>
-            return "an answer is of the forms in the usage of test_sessions, which takes it",
+        b"limit" => return "the limit must be 4096 to 134217728, and on the first line",
+        b"answer" => return "answers are accepted by test_sessions only, in the forms of its usage",
         _ => {}
     }
     let mut rooms = line[..space].split(|b| *b == b'+');
     if rooms.any(|room| parse_length(room).is_none()) {
-        return "the length of a room is not one to seven decimal digits";
+        return "the size of a reply buffer must have 1 to 7 decimal digits";
     }
     for segment in line[space + 1..].split(|b| *b == b'+') {
         if !segment.iter().all(u8::is_ascii_hexdigit) {
-            return "a segment has a byte that is no hex digit";
+            return "invalid hexadecimal digit in a segment";
         }
         if segment.len() % 2 == 1 {
-            return "a segment has an odd number of hex digits";
+            return "odd number of hexadecimal digits in a segment";
         }
     }
-    "its rooms have more than 2097152 bytes together"
+    "the reply buffers exceed 2097152 bytes"
 }
 
 // Where the first space of a line is.

@@ -1,4 +1,4 @@
-//! What a program over a session tells a person who starts it wrongly.
+//! The usage of programs over a session, and their messages.
 
 use crate::{RunError, why_bad};
 use std::env::FillError;
@@ -25,13 +25,13 @@ pub fn print_usage(rt: &impl Eprint, program: Program) -> io::Result<()> {
     let more_lines = program.more_lines;
     eprint!(rt;
         "\
-usage: {name} < SESSION
-It takes no arguments. The lines of a session:
-  limit N         In the first line alone: the largest payload in bytes that INIT's reply
-                  tells, 4096 to 134217728, in 4 to 9 digits. Without it that is 1048576.
-  ROOMS SEGMENTS  A request. ROOMS are the lengths in bytes of the segments for its
-                  reply, SEGMENTS its bytes in hex; both are joined by `+`.
-{more_lines}As a STATFS of node 1, with 96 bytes for its reply:
+Usage: {name} < SESSION
+Serves the requests of a session, which is read from standard input. Lines of a session:
+  limit N         On the first line only: the largest payload of INIT's reply in bytes,
+                  4096 to 134217728, in 4 to 9 digits. The default is 1048576.
+  BUFFERS REQUEST A request. BUFFERS are the sizes in bytes of the segments of its reply
+                  buffer, REQUEST its segments in hexadecimal; `+` separates segments.
+{more_lines}For example, a STATFS of node 1 with a reply buffer of 96 bytes:
   96 28000000110000000100000000000000010000000000000000000000000000000000000000000000
 "
     )
@@ -57,7 +57,7 @@ pub fn greet_terminal(
     }
     let name = program.name;
     eprintln!(rt;
-        "{name} reads lines to the end of its input, and answers them then (--help: which)"
+        "{name}: reading requests from standard input until end of file (see --help)"
     )
 }
 
