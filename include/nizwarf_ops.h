@@ -587,8 +587,9 @@ int nizwarf_add_direntry_plus(nizwarf_dir *dir, const char *name, const nizwarf_
  *
  * Returns a code as nizwarf_serve_ops does, and the length of the reply in `*reply_len`.
  * NIZWARF_OUT_OF_MEMORY is returned only if the scratch memory is not the one that the request was served
- * with, and NIZWARF_NULL if a pointer but `user` is NULL. If the entry or the handle did not reach the client, release and forget are called before this
- * function returns; so the program must not hold a lock that these take. */
+ * with, and NIZWARF_NULL if a pointer but `user` is NULL. If the entry or the handle did not reach the
+ * client, release and forget are called before this function returns; so the program must not hold a lock
+ * that these take. */
 int32_t nizwarf_finish_ops(const nizwarf_ops *ops, void *user, nizwarf_scratch *scratch,
 			   const nizwarf_session *session, const nizwarf_call *call,
 			   const nizwarf_answer *answer, void *reply, size_t *reply_len);
