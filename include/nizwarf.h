@@ -32,10 +32,10 @@
  * answer that the call's kind of answer has, and returns 0 or an error number such as ENOENT; an answer is
  * initialised as an error (EIO), so `error` must be set even on success. take_back drops lookups of a node.
  *
- * nizwarf_ops.h has a table of functions on top of these two, which is easier to use. nizwarf_tree.h has a
- * server over a file system in memory. This file has the session, the functions that
- * decode, the calls, the answers, the function that encodes, checks and messages as text, notices, and the
- * functions that other languages link, in this order.
+ * nizwarf_ops.h has a table of functions on top of these two, which is easier to use, and nizwarf_fuse.h, in a
+ * library of its own, mounts and serves such a table. nizwarf_tree.h has a server over a file system in memory.
+ * This file has the session, the functions that decode, the calls, the answers, the function that encodes,
+ * checks and messages as text, notices, and the functions that other languages link, in this order.
  *
  * Rejected requests. A request that is rejected has no reply. A virtio request must then be completed with
  * length 0. The kernel that uses /dev/fuse waits for a reply to each request except FORGET, BATCH_FORGET,

@@ -1,6 +1,7 @@
 /* nizwarf_ops.h - a FUSE file system as a table of functions, modelled on libfuse's fuse_lowlevel_ops.
  *
- * Fill in a nizwarf_ops, then call nizwarf_serve_ops() for each request: it decodes the request, calls the
+ * Fill in a nizwarf_ops, then call nizwarf_fuse_main() of nizwarf_fuse.h, which mounts it, or
+ * nizwarf_serve_ops() for each request: it decodes the request, calls the
  * function of the table, and encodes the reply. Members have libfuse's names where they mean the same. The
  * examples have hello.c, a file system of one file, and news.c, which uses every optional operation.
  *
@@ -39,8 +40,8 @@
  * needs. nizwarf_serve_ops then returns NIZWARF_CALL, and the program must reply once, by
  * nizwarf_finish_ops, on any thread and possibly before nizwarf_serve_ops has returned. The library uses
  * neither the request nor the reply buffer after the function has returned. So a lock request that waits
- * blocks no thread. With the transports of the examples (transport.h), the function must call transport_keep
- * first, and the program must pass the reply to transport_complete. init, conn, readdir and readdirplus must
+ * blocks no thread. With nizwarf_fuse_serve of nizwarf_fuse.h, the function must call nizwarf_request_keep
+ * first, and the program must pass the reply to nizwarf_request_complete. init, conn, readdir and readdirplus must
  * not return NIZWARF_LATER (it is replied as EIO there), nor may functions without a result.
  *
  * Rejected answers. An answer that Linux would reject is replaced by an error: EIO for an error number below

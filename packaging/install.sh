@@ -81,8 +81,9 @@ while IFS= read -r file; do
     rm -f "$root/$file"
     cp -P "$file" "$root/$file"
 done < "$lists/files"
-awk -v prefix="$prefix" '/^prefix=/ { $0 = "prefix=" prefix } { print }' lib/pkgconfig/nizwarf.pc \
-    > "$root/lib/pkgconfig/nizwarf.pc"
+for file in lib/pkgconfig/*.pc; do
+    awk -v prefix="$prefix" '/^prefix=/ { $0 = "prefix=" prefix } { print }' "$file" > "$root/$file"
+done
 # Managers of virtual machines and of services use absolute paths.
 for file in share/qemu/vhost-user/60-nizwarf-share.json lib/systemd/system/nizwarf-share@.service; do
     awk -v prefix="${prefix%/}" '{ sub("/usr/local", prefix) } { print }' "$file" > "$root/$file"

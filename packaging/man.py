@@ -267,7 +267,7 @@ class Header:
 def main(folder):
     """Copies each page into the folder, and fills in those that end in `.in`."""
     headers = {}
-    for name in ("nizwarf.h", "nizwarf_ops.h", "nizwarf_tree.h"):
+    for name in ("nizwarf.h", "nizwarf_ops.h", "nizwarf_tree.h", "nizwarf_fuse.h"):
         with open(f"{HERE}/include/{name}", encoding="utf-8") as file:
             headers[name] = file.read()
     header = Header(headers)

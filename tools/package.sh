@@ -5,8 +5,9 @@
 # Usage: tools/package.sh [--unproved] [--check] [--no-demo] [--out DIRECTORY]
 # It writes to out/packages, or to DIRECTORY:
 #
-#   libnizwarf1_VERSION_ARCH.deb       the shared library
-#   libnizwarf-dev_VERSION_ARCH.deb    headers, the static library, manual pages, examples
+#   libnizwarf1_VERSION_ARCH.deb       the shared library of the protocol
+#   libnizwarf-fuse1_VERSION_ARCH.deb  the shared library that serves /dev/fuse
+#   libnizwarf-dev_VERSION_ARCH.deb    headers, the static libraries, manual pages, examples
 #   nizwarf_VERSION_ARCH.deb           the programs that programs/Makefile lists, nizwarf-demo and
 #                                      nizwarf-decode
 #   nizwarf-VERSION-linux-ARCH.tar.gz  all of these, with an install.sh
@@ -99,50 +100,79 @@ find_parts() {
 join_library() {
     # (because the two libraries share crates, but must not share names)
     ld -r -o "$2" --whole-archive "$1" --no-whole-archive "$heap"
+    keep_own_names "$2"
+}
+keep_own_names() {
     objcopy --wildcard --keep-global-symbol='nizwarf_*' --strip-unneeded --remove-section=.comment \
-        --remove-section='.note.gnu*' --remove-section=.llvm_addrsig --remove-section='.rela.llvm_addrsig' "$2"
+        --remove-section='.note.gnu*' --remove-section=.llvm_addrsig --remove-section='.rela.llvm_addrsig' "$1"
 }
 
-# The functions that the headers declare; and those with inline functions.
+# The functions that headers declare: declared HEADER..; and those with inline functions.
 declared() {
-    sed -nE '/^static /d; s/^([a-z]\w* )+(nizwarf_\w+)\(.*/\2/p' "$here"/include/*.h | sort
+    sed -nE '/^static /d; s/^([a-z]\w* )+\*?(nizwarf_\w+)\(.*/\2/p' "$@" | sort
 }
 functions() {
-    { declared && sed -nE 's/^static inline .*\b(nizwarf_\w+)\(.*/\1/p' "$here"/include/*.h; } | sort
+    { declared "$here"/include/*.h && sed -nE 's/^static inline .*\b(nizwarf_\w+)\(.*/\1/p' "$here"/include/*.h; } | sort
 }
 
-# Makes the two libraries in a directory.
+# Makes the libraries in a directory.
 make_libraries() {
-    local folder=$1 others needed sources=("${code[@]}")
-    mkdir -p "$folder" "$work/objects"
+    local folder=$1 sources=("${code[@]}") headers=("$here"/include/nizwarf{,_ops,_tree}.h)
+    mkdir -p "$folder" "$work/objects" "$work/fuse"
     compile_sources "$work/objects" "${hardened[@]}"
     join_library "${packed[0]}" "$work/codec.o"
     join_library "${packed[1]}" "$work/tree.o"
-    rm -f "$folder/libnizwarf.a"
-    ar rcsD "$folder/libnizwarf.a" "$work/codec.o" "$work/tree.o" "$work"/objects/*.o
-    cc -shared -o "$folder/$soname.${release#*.}" -Wl,-soname,"$soname" \
-        -Wl,--version-script="$packaging/nizwarf.map" -Wl,-Bsymbolic-functions \
-        -Wl,-z,defs,-z,relro,-z,now,--gc-sections,--build-id=sha1 \
-        -Wl,--whole-archive "$folder/libnizwarf.a" -Wl,--no-whole-archive
-    strip --strip-unneeded --remove-section=.comment "$folder/$soname.${release#*.}"
-    chmod 644 "$folder/$soname.${release#*.}"
-    ln -sf "$soname.${release#*.}" "$folder/$soname"
-    ln -sf "$soname" "$folder/libnizwarf.so"
+    make_library "$folder" libnizwarf "$work/codec.o" "$work/tree.o" "$work"/objects/*.o
+    link_library "$folder" libnizwarf libc.so.6
+    compare_names "$folder" libnizwarf "${headers[@]}"
 
-    # (three fields: address, type, name)
-    others=$(nm --defined-only --extern-only "$folder/libnizwarf.a" | awk 'NF == 3 && $3 !~ /^nizwarf_/ { print $3 }' | paste -sd ' ')
-    [ -z "$others" ] || wrong "symbols of libnizwarf.a do not begin with nizwarf_: $others"
-    needed=$(needed_by "$folder/$soname" | paste -sd ' ')
-    [ "$needed" = libc.so.6 ] || wrong "$soname must need only the C library, but needs $needed"
-    [ "$(declared)" = "$(mapped | sed 's/@.*//' | sort)" ] \
-        || wrong "packaging/nizwarf.map differs from the functions that the headers declare"
-    others=$(exported "$folder/$soname" | comm -3 - <(mapped | sort) | tr -d '\t' | paste -sd ' ')
-    [ -z "$others" ] || wrong "$soname and packaging/nizwarf.map differ in: $others"
+    find_fuse
+    compile_sources "$work/fuse" "${hardened[@]}"
+    # (so what the files of a library call each other has no name outside)
+    ld -r -o "$work/fuse.o" "$work"/fuse/*.o
+    keep_own_names "$work/fuse.o"
+    make_library "$folder" libnizwarf-fuse "$work/fuse.o"
+    # (the loader, for variables of a thread)
+    link_library "$folder" libnizwarf-fuse "ld-linux-x86-64.so.2 libc.so.6 $soname" "$folder/$soname"
+    compare_names "$folder" libnizwarf-fuse "$here/include/nizwarf_fuse.h"
 }
 
-# The functions of the version script, as NAME@NODE.
+# Makes a static library of objects: make_library FOLDER LIBRARY OBJECT..
+make_library() {
+    rm -f "$1/$2.a"
+    ar rcsD "$1/$2.a" "${@:3}"
+}
+
+# Links a static library as a shared one, with others, and compares what it needs: link_library FOLDER LIBRARY NEEDED OTHER..
+link_library() {
+    local folder=$1 name=$2.so.1 needed
+    cc -shared -o "$folder/$name.${release#*.}" -Wl,-soname,"$name" \
+        -Wl,--version-script="$packaging/${2#lib}.map" -Wl,-Bsymbolic-functions \
+        -Wl,-z,defs,-z,relro,-z,now,--gc-sections,--build-id=sha1 \
+        -Wl,--whole-archive "$folder/$2.a" -Wl,--no-whole-archive "${@:4}"
+    strip --strip-unneeded --remove-section=.comment "$folder/$name.${release#*.}"
+    chmod 644 "$folder/$name.${release#*.}"
+    ln -sf "$name.${release#*.}" "$folder/$name"
+    ln -sf "$name" "$folder/$2.so"
+    needed=$(needed_by "$folder/$name" | paste -sd ' ')
+    [ "$needed" = "$3" ] || wrong "$name needs $needed, and not $3 alone."
+}
+
+# Compares the symbols of a library with its version script and its headers: compare_names DIRECTORY LIBRARY HEADER..
+compare_names() {
+    local map=$packaging/${2#lib}.map others
+    # (three fields: address, type, name)
+    others=$(nm --defined-only --extern-only "$1/$2.a" | awk 'NF == 3 && $3 !~ /^nizwarf_/ { print $3 }' | paste -sd ' ')
+    [ -z "$others" ] || wrong "symbols of $2.a do not begin with nizwarf_: $others"
+    [ "$(declared "${@:3}")" = "$(mapped "$map" | sed 's/@.*//' | sort)" ] \
+        || wrong "$map differs from the functions that the headers declare"
+    others=$(exported "$1/$2.so" | comm -3 - <(mapped "$map" | sort) | tr -d '\t' | paste -sd ' ')
+    [ -z "$others" ] || wrong "$2.so and $map differ in: $others"
+}
+
+# The functions of a version script, as NAME@NODE: mapped SCRIPT
 mapped() {
-    awk '/^NIZWARF_/ { node = $1 } /^\tnizwarf_/ { sub(";", "", $1); print $1 "@" node }' "$packaging/nizwarf.map"
+    awk '/^NIZWARF_/ { node = $1 } /^\tnizwarf_/ { sub(";", "", $1); print $1 "@" node }' "$1"
 }
 
 # The functions that a shared library exports, in the same form.
@@ -249,11 +279,13 @@ page_missing() {
 
 # Makes the tree of the tarball in a directory. Its programs do not need the shared library.
 make_tree() {
-    local tree=$1 page missing
+    local tree=$1 name page missing
     mkdir -p "$tree"/{include,lib/pkgconfig,share/doc/nizwarf,share/man,share/nizwarf}
     make_libraries "$tree/lib"
     install -m 644 "$here"/include/*.h "$tree/include/"
-    sed -e "s/@NOTE@/$note/" -e "s/@VERSION@/$release/" "$packaging/nizwarf.pc.in" > "$tree/lib/pkgconfig/nizwarf.pc"
+    for name in nizwarf nizwarf-fuse; do
+        sed -e "s/@NOTE@/$note/" -e "s/@VERSION@/$release/" "$packaging/$name.pc.in" > "$tree/lib/pkgconfig/$name.pc"
+    done
     put_programs "$tree/bin" "$tree/lib/libnizwarf.a"
     missing=$(for_programs misnamed "$tree/bin")
     [ -z "$missing" ] || wrong "programs do not print their name and version: $missing"
@@ -286,33 +318,43 @@ make_tarball() {
         | gzip -9n > "$2/$name.tar.gz"
 }
 
-# Makes the packages of Debian from the tree of the tarball. Their programs link the shared library.
-make_debs() {
-    local tree=$1 folder=$2 out=$3 lib=usr/lib/$triplet root script
-    root=$folder/libnizwarf1
+# Makes the package of a shared library of the tree: make_library_deb TREE DIRECTORY OUT LIBRARY
+make_library_deb() {
+    local name=$4 package=${4}1 lib=usr/lib/$triplet root
+    root=$2/$package
     mkdir -p "$root/$lib" "$root/DEBIAN"
-    cp -P "$tree/lib/$soname"* "$root/$lib/"
-    echo "libnizwarf ${soname##*.} libnizwarf1 (>= $release~)" > "$root/DEBIAN/shlibs"
+    cp -P "$1/lib/$name.so.1"* "$root/$lib/"
+    echo "$name 1 $package (>= $release~)" > "$root/DEBIAN/shlibs"
     {
-        echo "$soname libnizwarf1 #MINVER#"
+        echo "$name.so.1 $package #MINVER#"
         echo "* Build-Depends-Package: libnizwarf-dev"
         # (functions of the node NIZWARF_0.4 are in 0.4.0 and later)
-        sed -nE 's/^(NIZWARF_([0-9.]+)) \{$/ \1@\1 \2.0~/p' "$packaging/nizwarf.map"
+        sed -nE 's/^(NIZWARF_(FUSE_)?([0-9.]+)) \{$/ \1@\1 \3.0~/p' "$packaging/${name#lib}.map"
         # (~ includes earlier builds such as ~unproved)
-        exported "$root/$lib/$soname" | sed -E 's/^(.*@NIZWARF_(.*))$/ \1 \2.0~/'
+        exported "$root/$lib/$name.so.1" | sed -E 's/^(.*@NIZWARF_(FUSE_)?(.*))$/ \1 \3.0~/'
     } > "$root/DEBIAN/symbols"
     echo "activate-noawait ldconfig" > "$root/DEBIAN/triggers"
-    make_deb libnizwarf1 "$root" "$out"
+    make_deb "$package" "$root" "$3"
+}
+
+# The packages of Debian, from the tree of the tarball. Programs link the shared library there.
+make_debs() {
+    local tree=$1 folder=$2 out=$3 lib=usr/lib/$triplet name root script
+    for name in libnizwarf libnizwarf-fuse; do
+        make_library_deb "$tree" "$folder" "$out" "$name"
+    done
 
     root=$folder/libnizwarf-dev
     mkdir -p "$root/$lib/pkgconfig" "$root/usr/share/doc/libnizwarf-dev" "$root/usr/share/man"
-    cp -P "$tree"/lib/libnizwarf.{a,so} "$root/$lib/"
+    cp -P "$tree"/lib/libnizwarf{,-fuse}.{a,so} "$root/$lib/"
     cp -R "$tree/include" "$root/usr/"
     cp -R "$tree/share/man/man3" "$root/usr/share/man/"
     cp -R "$tree/share/doc/nizwarf/examples" "$root/usr/share/doc/libnizwarf-dev/"
-    sed -e 's,^prefix=.*,prefix=/usr,' -e "s,/lib\$,/lib/$triplet," "$tree/lib/pkgconfig/nizwarf.pc" \
-        > "$root/$lib/pkgconfig/nizwarf.pc"
-    make_deb libnizwarf-dev "$root" "$out" "libnizwarf1 (= $version-1)"
+    for name in nizwarf nizwarf-fuse; do
+        sed -e 's,^prefix=.*,prefix=/usr,' -e "s,/lib\$,/lib/$triplet," "$tree/lib/pkgconfig/$name.pc" \
+            > "$root/$lib/pkgconfig/$name.pc"
+    done
+    make_deb libnizwarf-dev "$root" "$out" "libnizwarf1 (= $version-1)" "libnizwarf-fuse1 (= $version-1)"
 
     root=$folder/nizwarf
     mkdir -p "$root/usr/share"/{man,qemu/vhost-user}
@@ -369,7 +411,7 @@ if [ -n "$check" ]; then
 fi
 mkdir -p "$out"
 # (the directory must contain only one version)
-rm -f "$out"/{libnizwarf1,libnizwarf-dev,nizwarf}_*.deb "$out"/nizwarf-*.tar.gz
+rm -f "$out"/{libnizwarf1,libnizwarf-fuse1,libnizwarf-dev,nizwarf}_*.deb "$out"/nizwarf-*.tar.gz
 mv "$work"/out/* "$out/"
 (cd "$out" && stat -c '%8s  %n' ./*nizwarf* | sed 's,\./,,')
 echo "They are in $out."

@@ -14,15 +14,16 @@
  */
 #define _GNU_SOURCE
 #include <inttypes.h>
+#include <linux/fuse.h>
 #include <poll.h>
 #include <pthread.h>
 #include <stdio.h>
 #include <stdlib.h>
+#include <string.h>
 #include <sys/ioctl.h>
 #include <sys/mount.h>
 #include <unistd.h>
-#include "nizwarf_ops.h"
-#include "transport.h"
+#include "nizwarf_fuse.h"
 
 enum {
 	ROOT = 1,
@@ -31,8 +32,8 @@ enum {
 	MOST_LOCKS = 256, /* of all owners, and as many that wait */
 	DAY = 86400,	  /* seconds */
 	WORKERS = 2,
-	KEPT = 4,			    /* requests of a processor that wait, over io_uring */
-	MESSAGE = TRANSPORT_PAYLOAD + 4096, /* bytes: a reply's most, with its header */
+	KEPT = 4,			      /* requests of a processor that wait, over io_uring */
+	MESSAGE = NIZWARF_MAX_PAYLOAD + 4096, /* bytes: a reply's most, with its header */
 	ITEMS = 8,     /* of a listing; a larger directory would be listed in several replies all the same */
 	LONGEST = 4096 /* bytes of a text, and of a line */
 };
@@ -45,10 +46,10 @@ static _Atomic uint64_t polled; /* the number that wakes who polls, or 0 */
 /* Of all that is here. It is never held while a notice is sent, for which the kernel may wait for a request. `text`
  * and `name` change on one thread alone, which reads them without it. */
 static pthread_mutex_t lock = PTHREAD_MUTEX_INITIALIZER;
-static transport_notices notices = TRANSPORT_NO_NOTICES;
-static nizwarf_session session = { 0, 4096, TRANSPORT_PAYLOAD };
+static nizwarf_fuse_notices notices = NIZWARF_FUSE_NOTICES_INIT;
+static nizwarf_session session = { 0, 4096, NIZWARF_MAX_PAYLOAD };
 /* Scratch memory has one caller at a time: each worker has its own, and the last one is used under the lock. */
-static nizwarf_scratch slots[TRANSPORT_MOST_WORKERS], late_slot = NIZWARF_SCRATCH_INIT;
+static nizwarf_scratch slots[NIZWARF_MAX_WORKERS], late_slot = NIZWARF_SCRATCH_INIT;
 
 /* ---- locks */
 
@@ -66,7 +67,7 @@ static nizwarf_interrupts early;
 /* A lock that is waited for. */
 static struct waiting {
 	nizwarf_call call;	/* a copy: the request's own is gone once `serve` comes back */
-	transport_later *later; /* NULL: nobody waits here */
+	nizwarf_request *later; /* NULL: nobody waits here */
 } waiting[MOST_LOCKS];
 
 /* A lock that keeps the owner from this one, or NULL. Those of the two kinds don't see each other; nor would those of
@@ -147,7 +148,7 @@ static const nizwarf_ops ops;
  * for that. */
 static void finish(struct waiting *w, int error)
 {
-	transport_later *later = w->later;
+	nizwarf_request *later = w->later;
 	nizwarf_answer answer = NIZWARF_ANSWER_INIT;
 	uint8_t room[LONGEST];
 	size_t len;
@@ -157,7 +158,7 @@ static void finish(struct waiting *w, int error)
 	/* (a reply without a record, so there is room) */
 	code = nizwarf_finish_ops(&ops, NULL, &late_slot, &session, &w->call, &answer, room, &len);
 	w->later = NULL;
-	transport_complete(later, code, room, len);
+	nizwarf_request_complete(later, code, room, len);
 }
 
 /* Answers those that wait for a lock which nothing holds now. */
@@ -184,7 +185,7 @@ static int wait_for(const nizwarf_call *call)
 		if (waiting[i].later)
 			continue;
 		waiting[i].call = *call;
-		waiting[i].later = transport_keep();
+		waiting[i].later = nizwarf_request_keep();
 		return waiting[i].later ? NIZWARF_LATER : ENOLCK;
 	}
 	return ENOLCK;
@@ -507,7 +508,7 @@ static const nizwarf_ops ops = { .conn = news_conn,
 /* ENOENT is no fault: the kernel has nothing of that node or name. */
 static void tell(const void *notice, size_t len, const void *data, size_t data_len, const char *what)
 {
-	const int error = fuse_device_notify(&notices, notice, len, data, data_len);
+	const int error = nizwarf_fuse_notify(&notices, notice, len, data, data_len);
 
 	if (error && error != ENOENT)
 		printf("%s: %s\n", what, strerror(error));
@@ -634,7 +635,7 @@ static void *obey_each(void *none)
 }
 
 /* Memory for a reply in one piece, of each worker. By the worker's number, which alone uses it. */
-static uint8_t *replies[TRANSPORT_MOST_WORKERS];
+static uint8_t *replies[NIZWARF_MAX_WORKERS];
 
 static int begin(void *user, unsigned worker)
 {
@@ -676,35 +677,36 @@ static int32_t serve(void *user, unsigned worker, const struct iovec *request, s
 int main(int count, char **words)
 {
 	const int by_ring = count == 3 && !strcmp(words[1], "--io_uring");
-	const transport by = { .program = "news",
-			       .workers = WORKERS,
-			       .ring = by_ring ? &fuse_ring : NULL,
-			       .ring_workers = 2,
-			       /* (its requests have memory of their own for each that may be kept) */
-			       .most_kept = KEPT,
-			       .wants_ring = 1,
-			       .notices = &notices,
-			       .begin = begin,
-			       .end = end,
-			       .serve = serve };
+	const nizwarf_transport by = { .size = sizeof(by),
+				       .program = "news",
+				       .workers = WORKERS,
+				       .io_uring = by_ring,
+				       .io_uring_workers = 2,
+				       /* (its requests have memory of their own for each that may be kept) */
+				       .io_uring_kept = KEPT,
+				       .io_uring_warn = 1,
+				       .notices = &notices,
+				       .begin = begin,
+				       .end = end,
+				       .serve = serve };
 	pthread_t lines;
 	int device, status;
 
 	if (count != 2 + by_ring || !strcmp(words[1], "--help"))
 		return fputs("Usage: news [--io_uring] MOUNTPOINT\n", stderr), 2;
-	device = fuse_device_mount(&by, "news", words[1 + by_ring], MS_NOSUID | MS_NODEV,
-				   ",default_permissions");
+	device = nizwarf_fuse_mount(&by, "news", words[1 + by_ring], MS_NOSUID | MS_NODEV,
+				    "default_permissions");
 	if (device < 0)
 		return 1;
 	/* (the thread has the mask of who starts it, where a mount has blocked signals: they are for who serves) */
 	if (pthread_create(&lines, NULL, obey_each, NULL)) {
 		/* (nobody would serve what is mounted) */
-		fuse_device_detach(&by, words[1 + by_ring]);
+		nizwarf_fuse_detach(&by, words[1 + by_ring]);
 		return 1;
 	}
 	/* (it ends with the process) */
 	pthread_detach(lines);
-	status = fuse_device_serve(&by, device, words[1 + by_ring]);
+	status = nizwarf_fuse_serve(&by, device, words[1 + by_ring]);
 	nizwarf_scratch_free(&late_slot);
 	return status;
 }

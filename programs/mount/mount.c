@@ -58,7 +58,7 @@ static const char usage[] =
 /* The options, which are set before there are workers, except for the time, which the first worker sets. Sizes are
  * in bytes. Strings point into the arguments of main(), and are not freed. */
 static nizwarf_server_config settings = NIZWARF_SERVER_CONFIG;
-static unsigned long flags = MS_NOSUID | MS_NODEV, max_read = TRANSPORT_PAYLOAD;
+static unsigned long flags = MS_NOSUID | MS_NODEV, max_read = NIZWARF_MAX_PAYLOAD;
 static const char *name = "nizwarf", *allow_other = "", *trace_file;
 static int traces, by_ring = 1;
 
@@ -142,7 +142,7 @@ static void take_option(const char *key, char *value)
 	else if (!strcmp(key, "gid"))
 		settings.gid = (uint32_t)number(key, value, "", 10, 0, UINT32_MAX - 1);
 	else if (!strcmp(key, "max_read"))
-		max_read = number(key, value, "", 10, 4096, TRANSPORT_PAYLOAD);
+		max_read = number(key, value, "", 10, 4096, NIZWARF_MAX_PAYLOAD);
 	else
 		refuse_words("unrecognized option '-o %s'", key);
 }
@@ -222,8 +222,8 @@ static pthread_mutex_t lock = PTHREAD_MUTEX_INITIALIZER;
 static unsigned callers;
 /* With a trace, the function that it calls. Otherwise, the memory of each worker's last reply, by its number,
  * which only that worker uses, and frees when it ends. */
-static transport traced;
-static nizwarf_reply_buf taken[TRANSPORT_MOST_WORKERS + 1];
+static nizwarf_transport traced;
+static nizwarf_reply_buf taken[NIZWARF_MAX_WORKERS + 1];
 
 /* How often a worker tries the lock before it sleeps: about 100 microseconds, in which the data of two or three
  * requests are copied. */
@@ -242,7 +242,7 @@ static int begin(void *user, unsigned worker)
 		clock_gettime(CLOCK_REALTIME, &now);
 		settings.seconds = (uint64_t)now.tv_sec;
 		settings.nanoseconds = (uint32_t)now.tv_nsec;
-		code = nizwarf_server_new(&server, (uint32_t)sysconf(_SC_PAGESIZE), TRANSPORT_PAYLOAD,
+		code = nizwarf_server_new(&server, (uint32_t)sysconf(_SC_PAGESIZE), NIZWARF_MAX_PAYLOAD,
 					  &settings);
 	}
 	callers += code == NIZWARF_OK;
@@ -342,17 +342,18 @@ static int32_t serve_apart(void *user, unsigned worker, const struct iovec *requ
 
 int main(int count, char **words)
 {
-	transport by = { .program = "nizwarf-mount",
-			 .workers = 2,
-			 .withheld = FUSE_ATOMIC_O_TRUNC | TRANSPORT_ALLOW_IDMAP,
-			 .begin = begin,
-			 .end = end,
-			 .serve = serve };
+	nizwarf_transport by = { .size = sizeof(by),
+				 .program = "nizwarf-mount",
+				 .workers = 2,
+				 .withheld = FUSE_ATOMIC_O_TRUNC | NIZWARF_WANT_ALLOW_IDMAP,
+				 .begin = begin,
+				 .end = end,
+				 .serve = serve };
 	const char *folder = take_words(count, words);
 	char options[80];
 	int device;
 
-	by.ring = by_ring ? &fuse_ring : NULL;
+	by.io_uring = by_ring;
 	heap_begin();
 	if (traces && trace_begin(&by, trace_file))
 		return 1;
@@ -360,7 +361,7 @@ int main(int count, char **words)
 	traced = by;
 	by.serve = traces ? serve_traced : serve_apart;
 	/* (with default_permissions Linux checks permissions by the attributes that the server returns) */
-	snprintf(options, sizeof(options), ",default_permissions,max_read=%lu%s", max_read, allow_other);
-	device = fuse_device_mount(&by, name, folder, flags, options);
-	return device < 0 ? 1 : fuse_device_serve(&by, device, folder);
+	snprintf(options, sizeof(options), "default_permissions,max_read=%lu%s", max_read, allow_other);
+	device = nizwarf_fuse_mount(&by, name, folder, flags, options);
+	return device < 0 ? 1 : nizwarf_fuse_serve(&by, device, folder);
 }

@@ -336,7 +336,7 @@ static void free_passthrough(struct passthrough *all)
 		nodes_end(&all->nodes);
 	watch_free(all->nodes.watch);
 	numbers_free(all->numbers);
-	for (unsigned i = 0; i < TRANSPORT_MOST_WORKERS; i++) {
+	for (unsigned i = 0; i < NIZWARF_MAX_WORKERS; i++) {
 		struct worker *w = all->worker[i];
 
 		if (!w)
@@ -381,7 +381,7 @@ struct passthrough *passthrough_new(int root, int proc, const struct passthrough
 	/* Without a cache of attributes there is no writeback cache: the kernel would return wrong times. */
 	if (options->cache == CACHE_NEVER || options->cache == CACHE_METADATA)
 		all->options.writeback = false;
-	for (unsigned i = 0; i < options->workers && i < TRANSPORT_MOST_WORKERS; i++) {
+	for (unsigned i = 0; i < options->workers && i < NIZWARF_MAX_WORKERS; i++) {
 		all->worker[i] = calloc(1, sizeof(struct worker));
 		if (!all->worker[i]) {
 			free_passthrough(all);

@@ -75,7 +75,7 @@ struct passthrough_options {
 	enum migration_mode migration_mode;
 	bool verifies, loses_files, takes_unlinked;
 	/* Where passthrough_watch() reports changes that others make; NULL: it does not. */
-	transport_notices *notices;
+	nizwarf_fuse_notices *notices;
 	/* Changes fail with EROFS. */
 	bool read_only;
 	/* Directories are listed with attributes. */

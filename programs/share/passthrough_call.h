@@ -69,7 +69,7 @@ struct passthrough {
 	/* The limit of stacked file systems, including the mount, for files that the client's kernel accesses
 	 * itself. */
 	uint32_t stack_depth;
-	struct worker *worker[TRANSPORT_MOST_WORKERS];
+	struct worker *worker[NIZWARF_MAX_WORKERS];
 };
 
 /* A call and its objects. */

@@ -59,14 +59,14 @@ static int transfer(const struct call *call)
 		return is_read ? EINVAL : EFBIG;
 	/* (over /dev/fuse the data may go through a pipe, without memory of the server) */
 	if (pieces == 1 && is_read)
-		direct = fuse_device_read_from(fd, asked->offset, data->iov_len);
+		direct = nizwarf_fuse_read_from(fd, asked->offset, data->iov_len);
 	if (direct >= 0) {
 		call->answer->count = (uint64_t)direct;
 		return 0;
 	}
 	/* (data that are still in a pipe are written from there; otherwise they are in the segment) */
 	if (pieces == 1 && !is_read) {
-		direct = fuse_device_write_to(fd, asked->offset, data->iov_len);
+		direct = nizwarf_fuse_write_to(fd, asked->offset, data->iov_len);
 		if (direct < 0)
 			return errno;
 		done = (size_t)direct;

@@ -43,7 +43,7 @@ struct waiter {
 	struct holder *holder;
 	struct open_file *file;
 	nizwarf_call asked;
-	transport_later *later;
+	nizwarf_request *later;
 	pthread_t thread;
 	/* The error that ends the wait; 0: it continues. */
 	atomic_int stop;

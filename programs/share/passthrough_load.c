@@ -27,7 +27,7 @@
 
 enum { MOST_MOUNTS = 1024, FIRST_ENTRIES = 256 };
 /* Options of INIT that the library negotiates itself, besides FUSE_SUBMOUNTS. */
-#define OF_LIBRARY (FUSE_HAS_IOCTL_DIR | FUSE_INIT_EXT | TRANSPORT_ALLOW_IDMAP)
+#define OF_LIBRARY (FUSE_HAS_IOCTL_DIR | FUSE_INIT_EXT | NIZWARF_WANT_ALLOW_IDMAP)
 /* How many lost files are printed on standard error. */
 enum { MOST_TOLD = 20 };
 /* How many handles may be wrong while the server runs, before files without a name are not opened any more. */

@@ -207,7 +207,7 @@ static void unlink_waiter(struct waiter *w)
 static void finish(struct waiter *w, int error)
 {
 	struct locks *all = w->of;
-	const nizwarf_session session = { w->asked.options, 4096, TRANSPORT_PAYLOAD };
+	const nizwarf_session session = { w->asked.options, 4096, NIZWARF_MAX_PAYLOAD };
 	uint8_t reply[HEADER];
 	const struct iovec room = { reply, sizeof(reply) };
 	nizwarf_answer answer = NIZWARF_ANSWER_INIT;
@@ -232,7 +232,7 @@ static void finish(struct waiter *w, int error)
 	if (w->holder)
 		holder_put(all, w->holder);
 	file_put(w->file);
-	transport_complete(w->later, code, reply, result.len);
+	nizwarf_request_complete(w->later, code, reply, result.len);
 	free(w);
 	pthread_mutex_lock(&all->lock);
 	all->waiting--;
@@ -292,7 +292,7 @@ static int may_wait(const struct call *call, struct waiter *w)
 	if (w->holder && is_deadlock(all, w))
 		return EDEADLK;
 	/* (the limit is reached, or the virtual machine is pausing) */
-	w->later = all->waiting < MOST_WAITERS ? transport_keep() : NULL;
+	w->later = all->waiting < MOST_WAITERS ? nizwarf_request_keep() : NULL;
 	return w->later ? 0 : ENOLCK;
 }
 

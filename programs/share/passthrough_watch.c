@@ -81,7 +81,7 @@ struct watch {
 	 * ends the thread. `own` is the id of this process in events. */
 	int group, proc, stop;
 	pid_t own;
-	transport_notices *notices;
+	nizwarf_fuse_notices *notices;
 	bool knows_none, is_started;
 	/* Whether all names can be invalidated at once: 1, or -1 if not, or 0 if it is not known yet. */
 	atomic_int has_epoch;
@@ -123,7 +123,7 @@ static bool is_of(const struct watched *watched, uint64_t hash, const struct fil
 	       !memcmp(watched->bytes, handle->f_handle, watched->size);
 }
 
-struct watch *watch_new(int proc, transport_notices *notices, bool knows_none)
+struct watch *watch_new(int proc, nizwarf_fuse_notices *notices, bool knows_none)
 {
 	struct watch *all = calloc(1, sizeof(*all));
 
@@ -309,7 +309,7 @@ static unsigned find(struct watch *all, const struct file_handle *handle, uint64
  * nothing of a node that it does not know. */
 static int send_notice(struct watch *all, const void *notice, size_t len)
 {
-	return len ? fuse_device_notify(all->notices, notice, len, NULL, 0) : EINVAL;
+	return len ? nizwarf_fuse_notify(all->notices, notice, len, NULL, 0) : EINVAL;
 }
 
 /* Invalidates the cached attributes of a file, or its data too. (With offset -1 no data are invalidated, and with

@@ -13,7 +13,7 @@ struct watched;
 
 /* `proc` is a descriptor of /proc/self/fd, which the caller must keep open. `knows_none` is set if the client also
  * caches that a name does not exist. Returns NULL with errno on error. */
-struct watch *watch_new(int proc, transport_notices *notices, bool knows_none);
+struct watch *watch_new(int proc, nizwarf_fuse_notices *notices, bool knows_none);
 /* Starts to notify the client, on a thread with the capabilities of the calling one. Returns 0 or an error. */
 int watch_start(struct watch *all);
 /* Frees a watch, which must have no watched files. */

@@ -281,7 +281,7 @@ static int look_at_socket(const char *path)
 /* Listens on the socket, which only the owner and the group of --socket-group may connect to, because a client has
  * the same access to the directory as the server. On error it exits: with status 2 if an option is invalid,
  * otherwise with 1. */
-static int listen_on_socket(const transport *of)
+static int listen_on_socket(const nizwarf_transport *of)
 {
 	const struct group *group = words.socket_group ? getgrnam(words.socket_group) : NULL;
 	mode_t before;
@@ -325,20 +325,23 @@ static bool is_below(const char *path, const char *folder)
 }
 
 /* The transport, and the device of a mount. */
-static transport by = { .program = "nizwarf-share",
-			.writes_in_place = 1,
-			.splices = 1,
-			.begin = passthrough_begin,
-			.end = passthrough_finish,
-			.parted = passthrough_parted,
-			.recall = passthrough_recall,
-			.save = passthrough_save,
-			.load = passthrough_load,
-			.has_spare = 1,
-			.left = remove_socket,
-			.serve = passthrough_serve };
+static nizwarf_machine machine = { .writes_in_place = 1,
+				   .parted = passthrough_parted,
+				   .recall = passthrough_recall,
+				   .save = passthrough_save,
+				   .load = passthrough_load,
+				   .has_spare = 1 };
+static nizwarf_transport by = { .size = sizeof(by),
+				.program = "nizwarf-share",
+				.splices = 1,
+				.begin = passthrough_begin,
+				.end = passthrough_finish,
+				.left = remove_socket,
+				.serve = passthrough_serve,
+				.machine = &machine };
+static struct fuse_prepared prepared;
 static int device = -1;
-static transport_notices notices = TRANSPORT_NO_NOTICES;
+static nizwarf_fuse_notices notices = NIZWARF_FUSE_NOTICES_INIT;
 /* Without a sandbox: the server has mounted, and must unmount. */
 static atomic_bool is_mounted;
 
@@ -348,7 +351,7 @@ static void leave(void)
 {
 	/* (otherwise the mount there is not this server's) */
 	if (atomic_load(&is_mounted))
-		fuse_device_detach(&by, words.mount_point);
+		nizwarf_fuse_detach(&by, words.mount_point);
 	remove_socket(NULL);
 }
 
@@ -384,21 +387,21 @@ static void look_for_rings(void)
 {
 	if (!words.by_ring || device < 0)
 		return;
-	by.ring_workers = by.workers;
+	by.io_uring_workers = by.workers;
 	/* (only requests that wait for locks are kept) */
-	by.most_kept = words.files.flock || words.files.posix_lock ? MOST_WAITING : 0;
-	by.wants_ring = 1;
-	queues = fuse_ring.count();
-	ring_workers = queues ? fuse_ring.count_workers(&by, queues) : 0;
+	by.io_uring_kept = words.files.flock || words.files.posix_lock ? MOST_WAITING : 0;
+	by.io_uring_warn = 1;
+	queues = fuse_ring_count();
+	ring_workers = queues ? fuse_ring_count_workers(&by, queues) : 0;
 }
 
 /* Creates rings, from within the sandbox and before its filter. */
 static void make_rings(void)
 {
 	if (queues)
-		by.rings = fuse_ring.make(&by, device, queues);
-	if (by.rings)
-		by.ring = &fuse_ring;
+		prepared.rings = fuse_ring_make(&by, device, queues);
+	if (prepared.rings)
+		by.io_uring = 1;
 	else if (words.by_ring && device >= 0)
 		fputs("nizwarf-share: warning: io_uring is not available: falling back to read(2) and write(2)\n",
 		      stderr);
@@ -425,10 +428,10 @@ static int mount_folder(void *user)
 	int error;
 
 	(void)user;
-	snprintf(options, sizeof(options), ",default_permissions,max_read=%lu%s", words.max_read,
+	snprintf(options, sizeof(options), "default_permissions,max_read=%lu%s", words.max_read,
 		 words.allow_other);
-	error = fuse_device_mount_on(&by, device, words.source ? words.source : words.folder,
-				     words.mount_point, words.flags, options);
+	error = nizwarf_fuse_mount_on(&by, device, words.source ? words.source : words.folder,
+				      words.mount_point, words.flags, options);
 	/* (otherwise this copy of the device would keep the mount alive after the server's end, and that of the
 	 * socket the other process) */
 	if (words.sandbox != SANDBOX_NONE) {
@@ -442,7 +445,7 @@ static int mount_folder(void *user)
 static int unmount_folder(void *user)
 {
 	(void)user;
-	return fuse_device_unmount(&by, words.mount_point);
+	return nizwarf_fuse_unmount(&by, words.mount_point);
 }
 
 /* Restricts the process that registers files to the system calls that it needs (fuse_backing_start). */
@@ -468,7 +471,8 @@ static int limit(struct passthrough *all)
 	return sandbox_filter((enum calls_filter)words.filter,
 			      (mounts ? MAY_UNMOUNT : 0) | (words.files.notices ? MAY_WATCH : 0) |
 				      (is_mount() ? 0 : MAY_TELL_HANDLES) |
-				      (opens_handles ? MAY_OPEN_HANDLES : 0) | (by.ring ? MAY_USE_RINGS : 0));
+				      (opens_handles ? MAY_OPEN_HANDLES : 0) |
+				      (by.io_uring ? MAY_USE_RINGS : 0));
 }
 
 /* Mounts the directory, from within the sandbox if there is one. */
@@ -516,17 +520,17 @@ static int serve(int listener)
 	if (!all)
 		return failed("serve directory", words.folder), 1;
 	by.user = all;
-	by.descriptors = proc;
+	prepared.descriptors = proc;
 	if (!begin_mount()) {
 		make_rings();
 		if (!limit(all)) {
 			tell_outside();
 			if (is_alone)
 				guard_end();
-			status = words.mount_point ? fuse_device_serve(&by, device, unmounts) :
+			status = words.mount_point ? fuse_device_serve(&by, &prepared, device, unmounts) :
 						     vhost_user_serve(&by, listener);
 		} else if (unmounts) {
-			fuse_device_detach(&by, unmounts);
+			nizwarf_fuse_detach(&by, unmounts);
 		}
 	}
 	passthrough_end(all);
@@ -592,8 +596,8 @@ int main(int count, char **given)
 			words.tag);
 	by.workers = words.files.workers;
 	/* (for a mount, data may go through a pipe, whose size must be one that requires no privilege) */
-	words.files.payload = is_mount() ? FUSE_DEVICE_PIPED : TRANSPORT_PAYLOAD;
-	by.quiet = !words.says_more;
+	words.files.payload = is_mount() ? NIZWARF_MAX_SPLICE : NIZWARF_MAX_PAYLOAD;
+	machine.quiet = !words.says_more;
 	/* (a client that clears set-ID bits itself does so for truncate(2), but not if OPEN truncates the file; so
 	 * it must truncate by a separate request) */
 	if (!words.files.kills_bits)
@@ -620,7 +624,7 @@ int main(int count, char **given)
 	transport_hold_signals(SIG_BLOCK);
 	/* (both must be opened while their paths are valid, and before the program goes to the background, so that
 	 * errors are seen) */
-	if (words.mount_point && (device = fuse_device_open(&by)) < 0)
+	if (words.mount_point && (device = nizwarf_fuse_open(&by)) < 0)
 		return 1;
 	if (!words.mount_point)
 		listener = listen_guarded();

@@ -123,7 +123,7 @@ static int await_signal(struct server *server, int signals)
  * means that its time is over. */
 static void pass_on(struct server *server, int signal)
 {
-	const union sigval unmounted = { .sival_int = FUSE_DEVICE_UNMOUNTED };
+	const union sigval unmounted = { .sival_int = NIZWARF_FUSE_UNMOUNTED };
 
 	if (signal < 0) {
 		transport_say("nizwarf-share", "the server does not exit: killing it");

@@ -40,7 +40,7 @@ struct share_words words = {
 	.allow_other = "",
 	/* (so that set-ID bits and devices have no effect below the mount point, unless suid or dev is given) */
 	.flags = MS_NOSUID | MS_NODEV,
-	.max_read = TRANSPORT_PAYLOAD,
+	.max_read = NIZWARF_MAX_PAYLOAD,
 	.most_files = MOST_FILES,
 	.fd = -1,
 	.sandbox = -1,
@@ -278,7 +278,7 @@ static void take_option(const char *key, char *value)
 	else if (value && *value && !strcmp(key, "fsname"))
 		words.source = value;
 	else if (value && !strcmp(key, "max_read"))
-		words.max_read = number("-o max_read", value, 4096, TRANSPORT_PAYLOAD);
+		words.max_read = number("-o max_read", value, 4096, NIZWARF_MAX_PAYLOAD);
 	else if (value && !strcmp(key, "entry_timeout"))
 		words.files.entry_time = milliseconds(key, value);
 	else if (value && !strcmp(key, "attr_timeout"))
@@ -575,8 +575,8 @@ static void take_served(int word)
 	case POOL:
 		words.files.workers = (unsigned)number("--thread-pool-size", optarg, 0, UINT_MAX);
 		words.files.workers += !words.files.workers;
-		if (words.files.workers > TRANSPORT_MOST_WORKERS)
-			words.files.workers = TRANSPORT_MOST_WORKERS;
+		if (words.files.workers > NIZWARF_MAX_WORKERS)
+			words.files.workers = NIZWARF_MAX_WORKERS;
 		break;
 	/* (0 leaves the limit unchanged) */
 	case NOFILE:

@@ -45,7 +45,7 @@ union beside {
 };
 
 /* Says on standard error what failed, and why by errno, and answers -1. */
-static int say(const transport *by, const char *what)
+static int say(const nizwarf_transport *by, const char *what)
 {
 	transport_say(by->program, "--passthrough: cannot %s: %s", what, strerror(errno));
 	return -1;
@@ -160,7 +160,8 @@ static int answer_one(void)
 }
 
 /* The process, after fork(2): it has one thread. `limit` filters its system calls, and so comes last. */
-static _Noreturn void name_files(const transport *by, int device, int socket, int (*limit)(void *user))
+static _Noreturn void name_files(const nizwarf_transport *by, int device, int socket,
+				 int (*limit)(void *user))
 {
 	struct rlimit files;
 
@@ -182,7 +183,7 @@ static _Noreturn void name_files(const transport *by, int device, int socket, in
 	_exit(0);
 }
 
-int fuse_backing_start(const transport *by, int device, int (*limit)(void *user))
+int fuse_backing_start(const nizwarf_transport *by, int device, int (*limit)(void *user))
 {
 	const struct timeval patience = { PATIENCE, 0 };
 	int ends[2];

@@ -1,4 +1,4 @@
-/* A transport for /dev/fuse: transport.h.
+/* A transport for /dev/fuse: nizwarf_fuse.h.
  *
  * A read of the device is one request. The kernel copies it into the worker's memory, so nothing
  * changes it while it is answered. A write is one reply. Reads wait: a request takes two system
@@ -25,7 +25,6 @@
 #define _GNU_SOURCE
 #include <errno.h>
 #include <fcntl.h>
-#include <linux/fuse.h>
 #include <poll.h>
 #include <pthread.h>
 #include <signal.h>
@@ -46,7 +45,7 @@
 
 /* The longest request and reply: a header and its record take less than a page. Before the data of
  * a WRITE stand 80 bytes, and before those of a READ's reply 16. */
-enum { PAGE = 4096, LONGEST = TRANSPORT_PAYLOAD + PAGE, BEFORE_WRITE = 80, BEFORE_READ = 16 };
+enum { PAGE = 4096, LONGEST = NIZWARF_MAX_PAYLOAD + PAGE, BEFORE_WRITE = 80, BEFORE_READ = 16 };
 
 /* In milliseconds: how often the calling thread looks if one worker alone is wanted and no request
  * waits, or else; when it no longer does so if none comes; and when one less is wanted. */
@@ -64,7 +63,7 @@ enum { LEAST_WAIT = 1500, SHORT_WAIT = 5000, SHORT_WAITS = 4 };
 enum { GATHER = 1000000 };
 /* In bytes: how large a pipe is, which has a place for each page; from how many data on to use it takes
  * less than a copy; and how many it holds after a header, if they don't begin at a page. */
-enum { PIPE = 2 * FUSE_DEVICE_PIPED, LEAST_PIPED = 1 << 16, MOST_PIPED = PIPE - 2 * PAGE };
+enum { PIPE = 2 * NIZWARF_MAX_SPLICE, LEAST_PIPED = 1 << 16, MOST_PIPED = PIPE - 2 * PAGE };
 
 /* In milliseconds, after a signal: how often it is looked what became of the requests; from when on they are
  * looked at, and until when; and when it ends, although some don't come back, or workers that have none. */
@@ -100,7 +99,7 @@ struct worker {
 static _Thread_local struct worker *serving;
 
 struct device {
-	const transport *by;
+	const nizwarf_transport *by;
 	/* Is told by each worker that ends. */
 	int over;
 	atomic_int stop, failed;
@@ -110,6 +109,7 @@ struct device {
 	 * those that were made before, which are the first one's to take. */
 	_Atomic(struct fuse_rings *) rings;
 	struct fuse_rings *made;
+	struct fuse_prepared prepared;
 	/* How many read now, and how many requests were taken. */
 	atomic_uint readers;
 	atomic_ulong taken;
@@ -127,12 +127,12 @@ struct device {
 	struct later_list later;
 	/* Beside io_uring: is held by whoever reads for the first one, whose memory that takes. */
 	pthread_mutex_t reading;
-	struct worker worker[TRANSPORT_MOST_WORKERS];
+	struct worker worker[NIZWARF_MAX_WORKERS];
 	/* What each worker has begun and ended: odd while it has a request. They are apart in memory. */
 	struct {
 		atomic_uint count;
 		char apart[60];
-	} turns[TRANSPORT_MOST_WORKERS];
+	} turns[NIZWARF_MAX_WORKERS];
 	/* Unmounts after a signal, from this folder, while requests are looked at. */
 	const char *folder;
 	pthread_t unmounts;
@@ -141,7 +141,7 @@ struct device {
 };
 
 /* Says what failed, as errno has it: -1. */
-static int say(const transport *by, const char *what)
+static int say(const nizwarf_transport *by, const char *what)
 {
 	transport_say(by->program, "cannot %s: %s", what, strerror(errno));
 	return -1;
@@ -156,7 +156,8 @@ static enum outcome failed(const struct worker *w, const char *what)
 
 /* A refused request has no reply of the server's, and the kernel waits for one: it gets an error. Of
  * these four it awaits none. (The number of the last is a notice's, and may be another request's too.) */
-size_t fuse_device_refuse(const transport *by, const struct fuse_in_header *asked, int32_t code, void *room)
+size_t fuse_device_refuse(const nizwarf_transport *by, const struct fuse_in_header *asked, int32_t code,
+			  void *room)
 {
 	struct fuse_out_header reply = { .len = sizeof(reply), .unique = asked->unique };
 
@@ -369,7 +370,7 @@ static ssize_t take(struct worker *w)
 	return w->writes && has_pipe(w) ? take_by_pipe(w) : read(w->fd, w->request, LONGEST);
 }
 
-ssize_t fuse_device_write_to(int fd, uint64_t offset, size_t size)
+ssize_t nizwarf_fuse_write_to(int fd, uint64_t offset, size_t size)
 {
 	struct worker *w = serving;
 	off_t at = (off_t)offset;
@@ -389,7 +390,7 @@ ssize_t fuse_device_write_to(int fd, uint64_t offset, size_t size)
 	return empty_pipe(w, w->request + BEFORE_WRITE + done, size) ? -1 : (ssize_t)done;
 }
 
-ssize_t fuse_device_read_from(int fd, uint64_t offset, size_t size)
+ssize_t nizwarf_fuse_read_from(int fd, uint64_t offset, size_t size)
 {
 	struct fuse_out_header header = { .len = (uint32_t)(sizeof(header) + size) };
 	struct worker *w = serving;
@@ -533,7 +534,7 @@ size_t fuse_device_room(const struct fuse_in_header *asked, const void *record, 
 		if (len < sizeof(read))
 			return LONGEST;
 		memcpy(&read, record, sizeof(read));
-		return read.size < TRANSPORT_PAYLOAD ? sizeof(struct fuse_out_header) + read.size : LONGEST;
+		return read.size < NIZWARF_MAX_PAYLOAD ? sizeof(struct fuse_out_header) + read.size : LONGEST;
 	case FUSE_GETXATTR:
 	case FUSE_LISTXATTR:
 	case FUSE_READLINK:
@@ -555,11 +556,10 @@ static int is_device(int fd)
 /* The rings for this device, if there can be any. (Who made them before can make no others.) */
 static struct fuse_rings *take_rings(struct device *d, int fd)
 {
-	const struct fuse_ring_calls *ring = d->by->ring;
 	struct fuse_rings *made = d->made;
 
 	d->made = NULL;
-	return d->by->rings ? made : ring->make(d->by, fd, ring->count());
+	return d->prepared.rings ? made : fuse_ring_make(d->by, fd, fuse_ring_count());
 }
 
 /* Starts the workers over io_uring, if they can be and the reply to INIT can say so. That was answered with this
@@ -567,26 +567,26 @@ static struct fuse_rings *take_rings(struct device *d, int fd)
 static void start_rings(struct worker *w, int offered, int32_t code, size_t len)
 {
 	struct device *d = w->of;
-	const transport *by = d->by;
+	const nizwarf_transport *by = d->by;
 	struct fuse_rings *rings = NULL;
 
-	if (!by->ring || atomic_load(&d->rings) || code != NIZWARF_OK)
+	if (!by->io_uring || atomic_load(&d->rings) || code != NIZWARF_OK)
 		return;
 	if (offered && is_device(w->fd))
 		rings = take_rings(d, w->fd);
-	if (rings && by->ring->start(rings, d, d->over, w->reply, len)) {
-		by->ring->end(rings);
+	if (rings && fuse_ring_start(rings, d, d->over, w->reply, len)) {
+		fuse_ring_end(rings);
 		rings = NULL;
 	}
 	atomic_store(&d->rings, rings);
-	if (!rings && by->wants_ring)
+	if (!rings && by->io_uring_warn)
 		transport_say(by->program,
 			      "warning: io_uring is not available: falling back to read(2) and write(2)");
 }
 
 /* What is kept of a request that is answered later. */
 struct kept {
-	const transport *by;
+	const nizwarf_transport *by;
 	int fd;
 	struct fuse_in_header asked;
 };
@@ -628,7 +628,7 @@ static int ask(struct worker *w, const struct fuse_in_header *asked, const struc
 }
 
 /* Notices can be sent from now on, or no longer: to no device. -1: one is being sent that waits for something. */
-static int let_notify(const transport *by, int device)
+static int let_notify(const nizwarf_transport *by, int device)
 {
 	struct timespec until;
 
@@ -643,8 +643,8 @@ static int let_notify(const transport *by, int device)
 	return 0;
 }
 
-int fuse_device_notify(transport_notices *notices, const void *notice, size_t len, const void *data,
-		       size_t data_len)
+int nizwarf_fuse_notify(nizwarf_fuse_notices *notices, const void *notice, size_t len, const void *data,
+			size_t data_len)
 {
 	struct iovec pieces[] = { { (void *)(uintptr_t)notice, len }, { (void *)(uintptr_t)data, data_len } };
 	int error = ENOTCONN;
@@ -668,7 +668,7 @@ static enum outcome serve_one(struct worker *w, uint32_t *opcode)
 {
 	const ssize_t got = read_request(w);
 	const struct iovec segment = { w->request, (size_t)got };
-	const transport *by = w->of->by;
+	const nizwarf_transport *by = w->of->by;
 	struct fuse_in_header asked;
 	struct iovec room;
 	int is_kept, offered;
@@ -689,7 +689,7 @@ static enum outcome serve_one(struct worker *w, uint32_t *opcode)
 	}
 	memcpy(&asked, w->request, sizeof(asked));
 	*opcode = asked.opcode;
-	offered = asked.opcode == FUSE_INIT && by->ring && by->ring->is_offered(w->request, (size_t)got);
+	offered = asked.opcode == FUSE_INIT && by->io_uring && fuse_ring_is_offered(w->request, (size_t)got);
 	transport_withhold(by, w->request, (size_t)got);
 	room.iov_len = fuse_device_room(&asked, w->request + sizeof(asked), (size_t)got - sizeof(asked));
 	/* (the data of a READ begin at a page, as reading past the host's cache wants) */
@@ -752,14 +752,14 @@ static int start(struct device *d, unsigned number, int fd)
 }
 
 /* Opens /dev/fuse anew, of which `first` is a descriptor. */
-static int open_anew(const transport *by, int first)
+static int open_anew(const struct device *d, int first)
 {
 	char name[16];
 
-	if (!by->descriptors)
+	if (!d->prepared.descriptors)
 		return open("/dev/fuse", O_RDWR | O_CLOEXEC);
 	snprintf(name, sizeof(name), "%d", first);
-	return openat(by->descriptors, name, O_RDWR | O_CLOEXEC);
+	return openat(d->prepared.descriptors, name, O_RDWR | O_CLOEXEC);
 }
 
 /* Starts the other workers. One that can't be cloned, as a socket, is read by all. */
@@ -768,7 +768,7 @@ static void start_others(struct device *d)
 	const uint32_t first = (uint32_t)d->worker[0].fd;
 
 	for (unsigned number = 1; number < d->by->workers; number++) {
-		int fd = open_anew(d->by, d->worker[0].fd);
+		int fd = open_anew(d, d->worker[0].fd);
 
 		if (fd < 0 || ioctl(fd, FUSE_DEV_IOC_CLONE, &first)) {
 			if (fd >= 0)
@@ -792,7 +792,7 @@ static void begin_others(struct device *d)
 		return;
 	}
 	fcntl(fd, F_SETFL, fcntl(fd, F_GETFL) | O_NONBLOCK);
-	d->by->ring->begin(rings);
+	fuse_ring_begin(rings);
 }
 
 /* Answers what waits to be read beside io_uring. */
@@ -851,7 +851,7 @@ static void *run(void *given)
 			while (atomic_load(&d->rings) && outcome == SERVED && !atomic_load(&d->stop))
 				outcome = serve_beside(d);
 		} while (outcome == SERVED && !atomic_load(&d->stop));
-		if (w->number == 0 && atomic_load(&d->rings) && d->by->ring->end(atomic_load(&d->rings)))
+		if (w->number == 0 && atomic_load(&d->rings) && fuse_ring_end(atomic_load(&d->rings)))
 			outcome = FAILED;
 		if (d->by->end)
 			d->by->end(d->by->user, w->number);
@@ -873,7 +873,7 @@ int fuse_device_joins(pthread_t thread)
 /* Whether a request is being answered. */
 static int is_answering(struct device *d)
 {
-	for (int i = 0; i < TRANSPORT_MOST_WORKERS; i++)
+	for (int i = 0; i < NIZWARF_MAX_WORKERS; i++)
 		if (atomic_load(&d->turns[i].count) % 2)
 			return 1;
 	return 0;
@@ -963,7 +963,7 @@ static int next_tick(struct device *d, struct seen *seen)
 struct asked {
 	uint64_t at, last, waited;
 	int looks;
-	unsigned turns[TRANSPORT_MOST_WORKERS];
+	unsigned turns[NIZWARF_MAX_WORKERS];
 };
 
 /* Unmounts. (What is still to be written may go through a request that waits.) */
@@ -971,7 +971,7 @@ static void *unmount(void *given)
 {
 	struct device *d = given;
 
-	if (fuse_device_unmount(d->by, d->folder)) {
+	if (nizwarf_fuse_unmount(d->by, d->folder)) {
 		atomic_store(&d->unmount_failed, 1);
 		tell(d, d->over);
 	}
@@ -999,13 +999,13 @@ static int is_stuck(struct device *d, struct asked *asked)
 	asked->last = at;
 	if (!asked->looks && since >= LOOK_FROM) {
 		asked->looks = 1;
-		for (int i = 0; i < TRANSPORT_MOST_WORKERS; i++)
+		for (int i = 0; i < NIZWARF_MAX_WORKERS; i++)
 			asked->turns[i] = atomic_load(&d->turns[i].count);
 	}
 	if (asked->looks != 1 || since < LOOK_UNTIL)
 		return 0;
 	asked->looks = 2;
-	for (int i = 0; i < TRANSPORT_MOST_WORKERS; i++)
+	for (int i = 0; i < NIZWARF_MAX_WORKERS; i++)
 		if (asked->turns[i] % 2 && asked->turns[i] == atomic_load(&d->turns[i].count))
 			return 1;
 	return 0;
@@ -1019,7 +1019,7 @@ static int is_last(int signals, struct device *d, const struct asked *asked)
 	if (read(signals, &said, sizeof(said)) != sizeof(said))
 		return 0;
 	return asked->at ||
-	       !(d->folder || (said.ssi_code == SI_QUEUE && said.ssi_int == FUSE_DEVICE_UNMOUNTED));
+	       !(d->folder || (said.ssi_code == SI_QUEUE && said.ssi_int == NIZWARF_FUSE_UNMOUNTED));
 }
 
 /* Waits until a worker has ended, or signals want an end. */
@@ -1071,7 +1071,7 @@ static _Noreturn void leave(struct device *d)
 	transport_say(d->by->program, "exiting although a %s is still blocked",
 		      is_answering(d) ? "request" : "worker");
 	if (d->folder && atomic_load(&d->failed))
-		fuse_device_detach(d->by, d->folder);
+		nizwarf_fuse_detach(d->by, d->folder);
 	if (d->by->left)
 		d->by->left(d->by->user);
 	_exit(atomic_load(&d->failed));
@@ -1120,7 +1120,8 @@ static void close_each(const int *fds, size_t count)
 			close(fds[i]);
 }
 
-int fuse_device_serve(const transport *by, int device, const char *folder)
+int fuse_device_serve(const nizwarf_transport *by, const struct fuse_prepared *prepared, int device,
+		      const char *folder)
 {
 	struct device *d = calloc(1, sizeof(*d));
 	const int own[] = { await_signals(), eventfd(0, EFD_CLOEXEC), eventfd(0, EFD_CLOEXEC) };
@@ -1135,19 +1136,32 @@ int fuse_device_serve(const transport *by, int device, const char *folder)
 		pthread_cond_init(&d->call, NULL);
 		pthread_mutex_init(&d->reading, NULL);
 		d->folder = folder;
-		d->made = by->rings;
+		if (prepared)
+			d->prepared = *prepared;
+		d->made = d->prepared.rings;
 		is_wrong = serve(d, device, own[0]);
 		if (d->made)
-			by->ring->end(d->made);
+			fuse_ring_end(d->made);
 	} else {
 		say(by, "create a signalfd or an eventfd");
-		if (by->rings)
-			by->ring->end(by->rings);
+		if (prepared && prepared->rings)
+			fuse_ring_end(prepared->rings);
 		close(device);
 	}
 	if (is_wrong && folder)
-		fuse_device_detach(by, folder);
+		nizwarf_fuse_detach(by, folder);
 	close_each(own, sizeof(own) / sizeof(*own));
 	free(d);
 	return is_wrong;
+}
+
+/* (a struct of an earlier header has fewer fields: the others are 0) */
+int nizwarf_fuse_serve(const nizwarf_transport *by, int device, const char *folder)
+{
+	nizwarf_transport own = { .size = sizeof(own) };
+
+	if (transport_check(by))
+		return close(device), 1;
+	memcpy(&own, by, by->size);
+	return fuse_device_serve(&own, NULL, device, folder);
 }

@@ -1,5 +1,5 @@
-/* Mounts and unmounts over /dev/fuse: transport.h. It is known where a mount was made, so that what is
- * unmounted is what was mounted.
+/* Mounts and unmounts over /dev/fuse: nizwarf_fuse.h. It is known where a mount was made, so that what is
+ * unmounted is what was mounted. Who may not mount does so by fusermount3: fusermount.h.
  *
  * Who may write to a folder above could otherwise rename it meanwhile, put a link in its place, or mount
  * something else there, and have a program of root's unmount that. A process makes one mount, and `made`
@@ -14,11 +14,12 @@
 #include <sys/mount.h>
 #include <sys/stat.h>
 #include <unistd.h>
+#include "fusermount.h"
 #include "say.h"
 #include "transport.h"
 
 /* Says on standard error what failed, and why by errno, and answers -1. */
-static int say(const transport *by, const char *action, const char *path)
+static int say(const nizwarf_transport *by, const char *action, const char *path)
 {
 	transport_say(by->program, "cannot %s '%s': %s", action, path, strerror(errno));
 	return -1;
@@ -26,11 +27,12 @@ static int say(const transport *by, const char *action, const char *path)
 
 /* Where the mount was made: the directory above, wherever that is now, the name there, and the numbers that
  * mounts have there and above; 0: unknown. The directory is open until the process ends. It is -1 before,
- * and where it can't be had, as without /proc. */
+ * and where it can't be had, as without /proc. `by_helper`: by fusermount3. */
 static struct {
 	int directory;
 	char name[NAME_MAX + 1];
 	uint64_t own, above;
+	int by_helper;
 } made = { .directory = -1 };
 
 /* The number of the mount that a path leads to; 0: unknown, as before Linux 5.8. Nobody is asked for it,
@@ -74,7 +76,7 @@ static void find_mount_point(const char *folder)
 
 /* Whether what is mounted there is what was made, as far as it is known. 0: nothing is; -1: it is another
  * one, and said so. */
-static int is_there(const transport *by, const char *folder)
+static int is_there(const nizwarf_transport *by, const char *folder)
 {
 	const uint64_t there = made.own ? number_of_mount(made.directory, made.name) : 0;
 
@@ -94,14 +96,24 @@ static int unmount(const char *point, int flags)
 	return umount2(point, flags | UMOUNT_NOFOLLOW) && errno != EINVAL && errno != ENOENT ? -1 : 0;
 }
 
-int fuse_device_unmount(const transport *by, const char *folder)
+/* The mount point, for fusermount3. */
+static struct mount_point helped(const char *program, const char *folder)
+{
+	return (struct mount_point){ program, folder, made.directory,
+				     made.directory < 0 ? folder : made.name };
+}
+
+int nizwarf_fuse_unmount(const nizwarf_transport *by, const char *folder)
 {
 	char place[NAME_MAX + 40];
 	const char *point = mount_point(folder, place, sizeof(place));
+	const struct mount_point at = helped(by->program, folder);
 	const int found = is_there(by, folder);
 
 	if (found <= 0)
 		return found;
+	if (made.by_helper)
+		return fusermount_unmount(&at);
 	if (!unmount(point, 0))
 		return 0;
 	if (errno != EBUSY || unmount(point, MNT_DETACH))
@@ -110,52 +122,115 @@ int fuse_device_unmount(const transport *by, const char *folder)
 	return 0;
 }
 
-void fuse_device_detach(const transport *by, const char *folder)
+void nizwarf_fuse_detach(const nizwarf_transport *by, const char *folder)
 {
+	const struct mount_point at = helped(NULL, folder);
 	char place[NAME_MAX + 40];
 
-	if (is_there(by, folder) > 0)
+	if (is_there(by, folder) <= 0)
+		return;
+	if (made.by_helper)
+		fusermount_unmount(&at);
+	else
 		unmount(mount_point(folder, place, sizeof(place)), MNT_DETACH);
 }
 
-int fuse_device_open(const transport *by)
+int transport_check(const nizwarf_transport *by)
 {
-	const int device = open("/dev/fuse", O_RDWR | O_CLOEXEC);
+	const size_t known = sizeof(*by);
 
+	if (by->size != known) {
+		transport_say("nizwarf-fuse",
+			      "the size of a nizwarf_transport is %zu, but this library supports %zu",
+			      by->size, known);
+		return -1;
+	}
+	if (by->workers >= 1 && by->workers <= NIZWARF_MAX_WORKERS)
+		return 0;
+	transport_say(by->program, "the number of workers is %u, but must be 1 to %d", by->workers,
+		      NIZWARF_MAX_WORKERS);
+	return -1;
+}
+
+int nizwarf_fuse_open(const nizwarf_transport *by)
+{
+	int device;
+
+	if (transport_check(by))
+		return -1;
+	device = open("/dev/fuse", O_RDWR | O_CLOEXEC);
 	return device < 0 ? say(by, "open", "/dev/fuse") : device;
 }
 
-/* The options name the device by its number; `rootmode` is that the root is a directory, in octal; and the
- * user and group are those who may use the mount where allow_other is not among the options. The type is
- * shown in /proc/mounts. Signals are blocked first, so that one can't end the process and leave the mount. */
-int fuse_device_mount_on(const transport *by, int device, const char *source, const char *folder,
-			 unsigned long flags, const char *options)
+/* Looks where the mount is about to be made, and blocks signals, so that one can't end the process and leave it. */
+static void prepare(const char *folder)
 {
-	char words[512], place[NAME_MAX + 40], type[64];
-	const int len = snprintf(words, sizeof(words), "fd=%d,rootmode=40000,user_id=%u,group_id=%u%s",
-				 device, (unsigned)geteuid(), (unsigned)getegid(), options);
-
-	snprintf(type, sizeof(type), "fuse.%s", by->program);
 	find_mount_point(folder);
 	if (made.directory >= 0)
 		made.above = number_of_mount(made.directory, made.name);
 	transport_hold_signals(SIG_BLOCK);
+}
+
+/* Mounts by mount(2): 0, or -1 with errno. The options name the device by its number; `rootmode` is that the root is a
+ * directory, in octal; and the user and group are those who may use the mount where allow_other is not among the
+ * options. The type is shown in /proc/mounts. */
+static int mount_device(const nizwarf_transport *by, int device, const char *source, const char *folder,
+			unsigned long flags, const char *options)
+{
+	char words[512], place[NAME_MAX + 40], type[64];
+	const int len = snprintf(words, sizeof(words), "fd=%d,rootmode=40000,user_id=%u,group_id=%u%s%s",
+				 device, (unsigned)geteuid(), (unsigned)getegid(),
+				 options && *options ? "," : "", options ? options : "");
+
+	snprintf(type, sizeof(type), "fuse.%s", by->program);
 	errno = E2BIG;
-	if (len < 0 || (size_t)len >= sizeof(words) ||
-	    mount(source, mount_point(folder, place, sizeof(place)), type, flags, words))
-		return say(by, "mount on", folder);
+	return len < 0 || (size_t)len >= sizeof(words) ?
+		       -1 :
+		       mount(source, mount_point(folder, place, sizeof(place)), type, flags, words);
+}
+
+/* What was mounted is known from now on. */
+static void note(int by_helper)
+{
+	made.by_helper = by_helper;
 	if (made.directory >= 0)
 		made.own = number_of_mount(made.directory, made.name);
+}
+
+int nizwarf_fuse_mount_on(const nizwarf_transport *by, int device, const char *source, const char *folder,
+			  unsigned long flags, const char *options)
+{
+	if (transport_check(by))
+		return -1;
+	prepare(folder);
+	if (mount_device(by, device, source, folder, flags, options))
+		return say(by, "mount on", folder);
+	note(0);
 	return 0;
 }
 
-int fuse_device_mount(const transport *by, const char *source, const char *folder, unsigned long flags,
-		      const char *options)
+int nizwarf_fuse_mount(const nizwarf_transport *by, const char *source, const char *folder,
+		       unsigned long flags, const char *options)
 {
-	const int device = fuse_device_open(by);
+	struct mount_point at;
+	int device, error;
 
-	if (device < 0 || !fuse_device_mount_on(by, device, source, folder, flags, options))
+	if (transport_check(by))
+		return -1;
+	prepare(folder);
+	device = open("/dev/fuse", O_RDWR | O_CLOEXEC);
+	if (device >= 0 && !mount_device(by, device, source, folder, flags, options))
+		return note(0), device;
+	error = errno;
+	if (device >= 0)
+		close(device);
+	if (geteuid() && (error == EPERM || error == EACCES)) {
+		at = helped(by->program, folder);
+		device = fusermount_mount(&at, by->program, source, flags, options);
+		if (device >= 0)
+			note(1);
 		return device;
-	close(device);
-	return -1;
+	}
+	errno = error;
+	return device < 0 ? say(by, "open", "/dev/fuse") : say(by, "mount on", folder);
 }

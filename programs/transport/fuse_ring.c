@@ -86,7 +86,7 @@ struct worker {
 };
 
 struct fuse_rings {
-	const transport *by;
+	const nizwarf_transport *by;
 	struct device *of;
 	int device, over;
 	unsigned queues, workers, started;
@@ -171,7 +171,7 @@ static void send_kept(void *about, int32_t code, const void *reply, size_t len)
 
 	if (code != NIZWARF_OK)
 		fuse_device_refuse(w->of->by, &kept->asked, code, &refused);
-	if (code != NIZWARF_OK || len < HEAD || len - HEAD > TRANSPORT_PAYLOAD) {
+	if (code != NIZWARF_OK || len < HEAD || len - HEAD > NIZWARF_MAX_PAYLOAD) {
 		reply = &refused;
 		len = HEAD;
 	}
@@ -213,8 +213,9 @@ static ssize_t serve_request(struct worker *w, struct entry *e, const struct fus
 	unsigned char *payload = e->memory[1].iov_base, *front = payload - record - sizeof(*asked);
 	const size_t wanted = fuse_device_room(asked, e->header->record, record) - HEAD;
 	const struct iovec request = { front, sizeof(*asked) + record + e->header->payload };
-	const struct iovec rooms[] = { { reply, HEAD },
-				       { payload, wanted < TRANSPORT_PAYLOAD ? wanted : TRANSPORT_PAYLOAD } };
+	const struct iovec rooms[] = {
+		{ reply, HEAD }, { payload, wanted < NIZWARF_MAX_PAYLOAD ? wanted : NIZWARF_MAX_PAYLOAD }
+	};
 	size_t len = 0;
 	int32_t code;
 
@@ -238,14 +239,14 @@ static int make_entry(struct worker *w, unsigned queue)
 	unsigned char *memory = MAP_FAILED;
 
 	if (w->count < w->most)
-		memory = mmap(NULL, PAGE + TRANSPORT_PAYLOAD, PROT_READ | PROT_WRITE,
+		memory = mmap(NULL, PAGE + NIZWARF_MAX_PAYLOAD, PROT_READ | PROT_WRITE,
 			      MAP_PRIVATE | MAP_ANONYMOUS | MAP_NORESERVE, -1, 0);
 	if (memory == MAP_FAILED)
 		return -1;
 	e->of = w;
 	e->header = (struct header *)(void *)memory;
 	e->memory[0] = (struct iovec){ memory, sizeof(struct header) };
-	e->memory[1] = (struct iovec){ memory + PAGE, TRANSPORT_PAYLOAD };
+	e->memory[1] = (struct iovec){ memory + PAGE, NIZWARF_MAX_PAYLOAD };
 	e->queue = (uint16_t)queue;
 	w->count++;
 	w->left++;
@@ -304,7 +305,7 @@ static int answer(struct worker *w, struct entry *e)
 	memcpy(&asked, h->in_out, sizeof(asked));
 	record = asked.len - sizeof(asked) - h->payload;
 	if (asked.len < sizeof(asked) + h->payload || record > sizeof(h->record) ||
-	    h->payload > TRANSPORT_PAYLOAD)
+	    h->payload > NIZWARF_MAX_PAYLOAD)
 		return say(w->of, EPROTO);
 	if (asked.opcode == FUSE_STATFS)
 		fuse_device_drain(w->of->of);
@@ -411,7 +412,7 @@ static int serve(struct worker *w)
 static int make_entries(struct worker *w)
 {
 	const struct fuse_rings *r = w->of;
-	const unsigned first = (w->number - 1) % r->queues, kept = r->by->most_kept;
+	const unsigned first = (w->number - 1) % r->queues, kept = r->by->io_uring_kept;
 
 	w->most = (r->queues / r->workers + 1) * (1 + kept);
 	w->entries = calloc(w->most, sizeof(*w->entries));
@@ -429,7 +430,7 @@ static void free_worker(struct worker *w)
 	/* (what it has of the kernel goes first: that may still write into the entries) */
 	uring_free(&w->ring);
 	for (unsigned i = 0; i < w->count; i++)
-		munmap(w->entries[i].header, PAGE + TRANSPORT_PAYLOAD);
+		munmap(w->entries[i].header, PAGE + NIZWARF_MAX_PAYLOAD);
 	free(w->entries);
 	pthread_mutex_destroy(&w->lock);
 }
@@ -465,7 +466,7 @@ static void fail(struct fuse_rings *r)
 static void *run(void *given)
 {
 	struct worker *w = given;
-	const transport *by = w->of->by;
+	const nizwarf_transport *by = w->of->by;
 	const int begun = !by->begin || !by->begin(by->user, w->number);
 
 	if (await_begin(w, begun && !uring_begin(&w->ring)) && serve(w))
@@ -487,7 +488,7 @@ static int may_be(void)
 }
 
 /* How many processors there may be, as the kernel counts its queues; 0: it does not say so. */
-static unsigned count(void)
+unsigned fuse_ring_count(void)
 {
 	FILE *file = may_be() ? fopen("/sys/devices/system/cpu/possible", "re") : NULL;
 	unsigned first, last, count = 0;
@@ -523,7 +524,7 @@ static void join_each(struct fuse_rings *r)
 }
 
 /* Ends in this order: answers that come later, then the workers, then what both used. */
-static int end(struct fuse_rings *r)
+int fuse_ring_end(struct fuse_rings *r)
 {
 	int failed;
 
@@ -561,21 +562,22 @@ static int make_each(struct fuse_rings *r)
 
 /* As many to each queue as are wanted, or fewer, so that all together are as many as there may be. The
  * kernel has a queue for each processor, and wants all served: with more of them a worker has several. */
-static unsigned count_workers(const transport *by, unsigned queues)
+unsigned fuse_ring_count_workers(const nizwarf_transport *by, unsigned queues)
 {
-	const unsigned most = TRANSPORT_MOST_WORKERS - 1, wanted = by->ring_workers ? by->ring_workers : 1;
+	const unsigned most = NIZWARF_MAX_WORKERS - 1,
+		       wanted = by->io_uring_workers ? by->io_uring_workers : 1;
 	const unsigned fit = queues && queues < most ? most / queues : 1;
 
 	return queues < most ? queues * (wanted < fit ? wanted : fit) : most;
 }
 
 /* What they begin with. */
-static void set_out(struct fuse_rings *r, const transport *by, int device, unsigned queues)
+static void set_out(struct fuse_rings *r, const nizwarf_transport *by, int device, unsigned queues)
 {
 	r->by = by;
 	r->device = device;
 	r->queues = queues;
-	r->workers = count_workers(by, queues);
+	r->workers = fuse_ring_count_workers(by, queues);
 	sched_getaffinity(0, sizeof(r->anywhere), &r->anywhere);
 	pthread_mutex_init(&r->lock, NULL);
 	pthread_cond_init(&r->change, NULL);
@@ -588,14 +590,14 @@ static void set_out(struct fuse_rings *r, const transport *by, int device, unsig
 		pthread_mutex_init(&w->lock, NULL);
 	}
 	for (unsigned i = 0; i < queues; i++) {
-		r->later[i].most = by->most_kept;
-		r->later[i].is_closed = !by->most_kept;
+		r->later[i].most = by->io_uring_kept;
+		r->later[i].is_closed = !by->io_uring_kept;
 	}
 }
 
-static struct fuse_rings *make(const transport *by, int device, unsigned queues)
+struct fuse_rings *fuse_ring_make(const nizwarf_transport *by, int device, unsigned queues)
 {
-	const size_t workers = count_workers(by, queues);
+	const size_t workers = fuse_ring_count_workers(by, queues);
 	struct fuse_rings *r;
 
 	if (!queues || queues > UINT16_MAX)
@@ -610,7 +612,7 @@ static struct fuse_rings *make(const transport *by, int device, unsigned queues)
 	set_out(r, by, device, queues);
 	if (!make_each(r))
 		return r;
-	end(r);
+	fuse_ring_end(r);
 	return NULL;
 }
 
@@ -634,7 +636,7 @@ static int start_each(struct fuse_rings *r)
 }
 
 /* Whether the kernel's INIT offers it: from Linux 6.14 on, and if its switch fuse.enable_uring is on. */
-static int is_offered(const unsigned char *request, size_t len)
+int fuse_ring_is_offered(const unsigned char *request, size_t len)
 {
 	return (nizwarf_init_capable_at(request, len) & TRANSPORT_OVER_IO_URING) != 0;
 }
@@ -651,12 +653,12 @@ static int has_room(const unsigned char *reply, size_t len)
 		return 0;
 	memcpy(&init, reply + sizeof(head), sizeof(init));
 	pages = init.flags & FUSE_MAX_PAGES ? init.max_pages : usual_pages;
-	return init.max_write <= TRANSPORT_PAYLOAD && pages <= TRANSPORT_PAYLOAD / page;
+	return init.max_write <= NIZWARF_MAX_PAYLOAD && pages <= NIZWARF_MAX_PAYLOAD / page;
 }
 
 /* Makes the workers, and adds to the reply of INIT that it is agreed on. -1: the reply stays as it was,
  * and requests come by read(2). */
-static int start(struct fuse_rings *r, struct device *of, int over, unsigned char *reply, size_t len)
+int fuse_ring_start(struct fuse_rings *r, struct device *of, int over, unsigned char *reply, size_t len)
 {
 	const nizwarf_init_params more = { .want = TRANSPORT_OVER_IO_URING };
 
@@ -668,12 +670,10 @@ static int start(struct fuse_rings *r, struct device *of, int over, unsigned cha
 }
 
 /* Lets the workers go, all of which are ready. */
-static void begin(struct fuse_rings *r)
+void fuse_ring_begin(struct fuse_rings *r)
 {
 	pthread_mutex_lock(&r->lock);
 	r->begun = 1;
 	pthread_cond_broadcast(&r->change);
 	pthread_mutex_unlock(&r->lock);
 }
-
-const struct fuse_ring_calls fuse_ring = { count, count_workers, make, is_offered, start, begin, end };

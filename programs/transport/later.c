@@ -10,15 +10,15 @@
 #include <time.h>
 #include "later.h"
 
-/* A request that was kept. It is allocated by transport_keep(), and freed by transport_complete(), which is
+/* A request that was kept. It is allocated by nizwarf_request_keep(), and freed by nizwarf_request_complete(), which is
  * called once. The lock guards all but `send` and `about`, which stay as they are. */
-struct transport_later {
+struct nizwarf_request {
 	/* NULL: it can't be completed any more. */
 	struct later_list *list;
 	/* Where its places are counted; NULL: it has none. */
 	unsigned *taken, places;
 	/* The next in the list, and what points to this one. */
-	transport_later *next, **at;
+	nizwarf_request *next, **at;
 	void (*send)(void *about, int32_t code, const void *reply, size_t len);
 	/* What the transport keeps of it, copied: a struct of its own, so it is aligned for any. */
 	_Alignas(max_align_t) unsigned char about[];
@@ -41,7 +41,7 @@ int later_keeps(const struct later_source *source, int32_t code)
 }
 
 /* Puts it first into the list. The lock is held. */
-static void link_later(transport_later *later, struct later_list *list)
+static void link_later(nizwarf_request *later, struct later_list *list)
 {
 	later->list = list;
 	later->at = &list->first;
@@ -63,10 +63,10 @@ static int has_room(const struct later_source *source)
 
 /* `is_kept` is of this thread alone. Memory is allocated before the lock is taken, which so is held for a
  * moment. */
-transport_later *transport_keep(void)
+nizwarf_request *nizwarf_request_keep(void)
 {
 	struct later_source *source = serving;
-	transport_later *later;
+	nizwarf_request *later;
 
 	if (!source || source->is_kept)
 		return NULL;
@@ -93,7 +93,7 @@ transport_later *transport_keep(void)
 }
 
 /* Takes it out of the list, and so out of the transport's hands. The lock is held. */
-static void unlink_later(struct later_list *list, transport_later *later)
+static void unlink_later(struct later_list *list, nizwarf_request *later)
 {
 	*later->at = later->next;
 	if (later->next)
@@ -105,7 +105,7 @@ static void unlink_later(struct later_list *list, transport_later *later)
 }
 
 /* While it is sent the list waits for that, in later_end(): so the transport that it is sent to is there. */
-void transport_complete(transport_later *later, int32_t code, const void *reply, size_t len)
+void nizwarf_request_complete(nizwarf_request *later, int32_t code, const void *reply, size_t len)
 {
 	struct later_list *list;
 

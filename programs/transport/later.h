@@ -6,7 +6,7 @@
 
 /* The requests of a transport that were kept, while they can be completed. */
 struct later_list {
-	transport_later *first;
+	nizwarf_request *first;
 	/* None is kept now. */
 	int is_closed;
 	/* How many are kept, and how many may be; 0: any number. */

@@ -30,7 +30,7 @@ static const char *const refusals[] = {
 
 /* What is traced, and where its bytes go: NULL if it is printed by name. Both are set before workers begin.
  * The options are those of INIT that were agreed on; before it, and after a DESTROY, there are none. */
-static transport of;
+static nizwarf_transport of;
 static FILE *file;
 static _Atomic uint64_t options;
 
@@ -230,7 +230,7 @@ static int32_t serve(void *user, unsigned worker, const struct iovec *request, s
 	return code;
 }
 
-int trace_begin(transport *by, const char *path)
+int trace_begin(nizwarf_transport *by, const char *path)
 {
 	/* (the data of all files will be in it) */
 	const int fd = path ? open(path, O_WRONLY | O_CREAT | O_EXCL | O_CLOEXEC, 0600) : -1;

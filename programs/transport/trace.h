@@ -8,6 +8,6 @@
  * fields by name. If there is a path, a new file of that path gets both as bytes instead, in the lines
  * that the program nizwarf-decode reads. It is called once, before the transport serves. Answers 0, or -1:
  * it failed, and said why. */
-int trace_begin(transport *by, const char *path);
+int trace_begin(nizwarf_transport *by, const char *path);
 
 #endif

@@ -36,7 +36,7 @@
  * take less than a page, and a guest that keeps to what INIT agreed on has no larger payload. PIECES bounds
  * the pieces of a request, those of its room, and the entries of an indirect table; a chain of more is
  * none. */
-enum { PIECES = 1024, LONGEST = TRANSPORT_PAYLOAD + 4096 };
+enum { PIECES = 1024, LONGEST = NIZWARF_MAX_PAYLOAD + 4096 };
 /* The opcode is the second word of a fuse_in_header, and so ends with byte 8. A WRITE begins with
  * WRITE_HEAD bytes: 40 of that header, and 40 of a fuse_write_in. */
 enum { OPCODE_WRITE = 16, OPCODE_END = 8, WRITE_HEAD = 80 };
@@ -106,8 +106,9 @@ static const char *const fault_names[FAULTS] = {
 
 /* The transport, and its workers, which the calling thread alone starts and joins. Each of these knows
  * itself by `this_worker`, which is NULL in other threads. */
-static const transport *by;
-static struct worker *workers[TRANSPORT_MOST_WORKERS];
+static const nizwarf_transport *by;
+static const nizwarf_machine *machine;
+static struct worker *workers[NIZWARF_MAX_WORKERS];
 static unsigned started;
 static _Thread_local const struct worker *this_worker;
 
@@ -234,7 +235,7 @@ static int add_request(struct worker *w, const unsigned char *at, size_t len)
 	uint32_t opcode = 0;
 
 	w->len += len;
-	if (by->writes_in_place) {
+	if (machine->writes_in_place) {
 		if (w->copied < OPCODE_END)
 			copy_up_to(w, OPCODE_END, &at, &len);
 		if (w->copied >= OPCODE_END)
@@ -325,7 +326,7 @@ struct late {
 
 /* Leaves the answer to a worker, which writes it into the guest's memory. Without memory for it the request
  * is completed as one that was refused: the guest would wait for ever otherwise. Any thread may call it, by
- * transport_complete(): so it does not have `in_flight`, and touches no memory of the guest. */
+ * nizwarf_request_complete(): so it does not have `in_flight`, and touches no memory of the guest. */
 static void send_kept(void *about, int32_t code, const void *reply, size_t len)
 {
 	const struct kept *kept = about;
@@ -356,7 +357,7 @@ unsigned vhost_user_client(void)
 }
 
 /* Hands a chain to `serve`, which may keep it, if it can be called back. Answers whether it does: then it
- * may be completed already, and the worker may take the next chain. transport_keep() copies `kept`, which
+ * may be completed already, and the worker may take the next chain. nizwarf_request_keep() copies `kept`, which
  * so may stand here. Those that are kept take half of the queue at most: they may wait for what another request does, as
  * the unlocking of a lock, for which there must be a place. */
 static int ask(struct worker *w, struct guest *g, struct queue *q, uint16_t head, int32_t *code, size_t *len)
@@ -369,7 +370,7 @@ static int ask(struct worker *w, struct guest *g, struct queue *q, uint16_t head
 				       .taken = &q->taken,
 				       .places = w->places,
 				       .most_places = q->size / 2 };
-	const int can_keep = by->recall && w->rooms <= KEPT_ROOMS;
+	const int can_keep = machine->recall && w->rooms <= KEPT_ROOMS;
 
 	if (can_keep) {
 		kept.q = q;
@@ -996,7 +997,7 @@ void queues_tell(void)
 
 	for (int i = 0; i < OUTCOMES; i++) {
 		count = atomic_exchange(&outcomes[i], 0);
-		if (!count || by->quiet)
+		if (!count || machine->quiet)
 			continue;
 		if (i == NIZWARF_OK)
 			transport_say(by->program, "%lu requests served", count);
@@ -1006,7 +1007,7 @@ void queues_tell(void)
 	}
 	for (int i = 0; i < FAULTS; i++) {
 		count = atomic_exchange(&faults[i], 0);
-		if (count && !by->quiet)
+		if (count && !machine->quiet)
 			transport_say(by->program, "%lu %s", count, fault_names[i]);
 	}
 }
@@ -1076,12 +1077,13 @@ static int start_worker(void)
 	return 0;
 }
 
-int queues_begin(const transport *with)
+int queues_begin(const nizwarf_transport *with)
 {
 	by = with;
+	machine = transport_machine(with);
 	if (make_events())
 		return -1;
-	while (started < by->workers && started < TRANSPORT_MOST_WORKERS)
+	while (started < by->workers && started < NIZWARF_MAX_WORKERS)
 		if (start_worker())
 			return -1;
 	return 0;
@@ -1114,7 +1116,7 @@ static unsigned join_workers(void)
 
 /* Leaves what a front end shared to the workers that still use it, and begins others in their place, as far
  * as there may be more. 1, or -1: it failed, and said why. The last of those workers frees it. If some
- * never come back, one front end after another may use up TRANSPORT_MOST_WORKERS, and fewer serve then. */
+ * never come back, one front end after another may use up NIZWARF_MAX_WORKERS, and fewer serve then. */
 static int leave_guest(void)
 {
 	struct guest *gone = vhost_guest, *next = new_guest();
@@ -1136,7 +1138,7 @@ static int leave_guest(void)
 		are_free += !served || served == next;
 	}
 	put_guest(gone);
-	while (are_free++ < by->workers && started < TRANSPORT_MOST_WORKERS)
+	while (are_free++ < by->workers && started < NIZWARF_MAX_WORKERS)
 		if (start_worker())
 			return -1;
 	return 1;
@@ -1161,8 +1163,8 @@ void queues_recall(void)
 	struct guest *g = vhost_guest;
 
 	later_close(&g->later);
-	while (by->recall && !is_answered(g) && !has_passed(&most)) {
-		by->recall(by->user);
+	while (machine->recall && !is_answered(g) && !has_passed(&most)) {
+		machine->recall(by->user);
 		nanosleep(&pause, NULL);
 	}
 	later_end(&g->later, LATER_ALL);
@@ -1188,7 +1190,7 @@ int queues_part(int signals)
 			interrupt();
 		if (poll(&wait, 1, 0) > 0 && has_passed(&interrupts))
 			return -1;
-		if (by->has_spare && has_passed(&most))
+		if (machine->has_spare && has_passed(&most))
 			return leave_guest();
 	}
 	drop_late(vhost_guest);

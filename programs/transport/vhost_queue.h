@@ -88,7 +88,7 @@ struct guest {
 extern struct guest *vhost_guest;
 
 /* Starts the workers. -1: it failed, and said why. */
-int queues_begin(const transport *by);
+int queues_begin(const nizwarf_transport *by);
 /* Ends them, and interrupts requests that take long. -1: one did not come back within a second, so what
  * its worker uses is left. */
 int queues_end(void);

@@ -91,7 +91,8 @@ struct message {
 /* Those queues that the front end named are before this one: only these can have something to do. */
 static size_t queues;
 
-static const transport *by;
+static const nizwarf_transport *by;
+static const nizwarf_machine *machine;
 /* The features of the protocol that the front end has set. */
 static uint64_t protocol;
 /* What CHECK_DEVICE_STATE is answered: whether the last state was saved or loaded wholly. */
@@ -407,7 +408,8 @@ static enum outcome transfer_state(int client, int signals, struct message *m)
 	if (!state)
 		return reply_number(client, SET_DEVICE_STATE_FD, TAKES_DESCRIPTOR | 1);
 	if (reply_number(client, SET_DEVICE_STATE_FD, TAKES_DESCRIPTOR) == REPLIED)
-		state_failed = loads ? by->load(by->user, state) != 0 : by->save(by->user, state) != 0;
+		state_failed =
+			loads ? machine->load(by->user, state) != 0 : machine->save(by->user, state) != 0;
 	if (state_end(state))
 		state_failed = 1;
 	return REPLIED;
@@ -548,8 +550,8 @@ static int part_from_client(int client, int signals)
 	protocol = 0;
 	state_failed = 1;
 	/* (before a request of the next front end comes, which is another client) */
-	if (by->parted)
-		by->parted(by->user);
+	if (machine->parted)
+		machine->parted(by->user);
 	if (!parted)
 		queues_go();
 	else
@@ -708,17 +710,18 @@ static int serve_guarded(struct guard *g, int listener, int client)
 /* Serves by a listening socket or, if that is -1, a client's. A listener is closed when it answers, and so
  * is a client that was served. What is offered of migration takes a file system that can save and load what
  * a client knows. */
-static int serve_with_workers(const transport *with, int listener, int client)
+static int serve_with_workers(const nizwarf_transport *with, int listener, int client)
 {
 	const sigset_t ending = transport_hold_signals(SIG_BLOCK);
 	struct guard guard;
 	int status = 1;
 
 	by = with;
+	machine = transport_machine(with);
 	offer = (struct vhost_offer){ VERSION_1 | PROTOCOL_FEATURES | INDIRECT_DESCRIPTORS | EVENT_INDICES,
 				      MANY_QUEUES | REPLY_ACK, QUEUES };
 	/* (a machine migrates only if its writes are marked, and what its client knows can go with it) */
-	if (by->save && by->load) {
+	if (machine->save && machine->load) {
 		offer.features |= LOG_ALL;
 		offer.protocol |= LOG_IN_FILE | DEVICE_STATE;
 	}
@@ -738,20 +741,20 @@ static int serve_with_workers(const transport *with, int listener, int client)
 	return status;
 }
 
-int vhost_user_serve(const transport *with, int listener)
+int vhost_user_serve(const nizwarf_transport *with, int listener)
 {
 	/* (who connected may be gone again when it is accepted) */
 	fcntl(listener, F_SETFL, O_NONBLOCK);
 	return serve_with_workers(with, listener, -1);
 }
 
-int vhost_user_serve_one(const transport *with, int client)
+int vhost_user_serve_one(const nizwarf_transport *with, int client)
 {
 	return serve_with_workers(with, -1, client);
 }
 
 /* Says why a path can't be that of a socket. */
-static int refuse(const transport *with, int answer, const char *path, const char *why)
+static int refuse(const nizwarf_transport *with, int answer, const char *path, const char *why)
 {
 	transport_say(with->program, "cannot listen on '%s': %s", path, why);
 	return answer;
@@ -807,7 +810,7 @@ static int keep_made(const char *path)
  * which was killed. Who may write to the folder could put something else there in between, and so is to be
  * trusted; but bind(2) takes no path that is there. Signals are blocked before there is a socket, so that
  * one can't end the process and leave it. */
-int vhost_user_listen(const transport *with, const char *path)
+int vhost_user_listen(const nizwarf_transport *with, const char *path)
 {
 	struct sockaddr_un address = { .sun_family = AF_UNIX };
 	int probe, listener, why;

@@ -42,7 +42,7 @@ static int begin(void *user, unsigned worker)
 	clock_gettime(CLOCK_REALTIME, &now);
 	settings.seconds = (uint64_t)now.tv_sec;
 	settings.nanoseconds = (uint32_t)now.tv_nsec;
-	if (nizwarf_server_new(&server, (uint32_t)sysconf(_SC_PAGESIZE), TRANSPORT_PAYLOAD, &settings) ==
+	if (nizwarf_server_new(&server, (uint32_t)sysconf(_SC_PAGESIZE), NIZWARF_MAX_PAYLOAD, &settings) ==
 	    NIZWARF_OK)
 		return 0;
 	fputs("nizwarf-vhost: cannot create the file system\n", stderr);
@@ -108,14 +108,17 @@ static bool prints(const char *word)
 
 int main(int count, char **words)
 {
-	transport by = { .program = "nizwarf-vhost",
-			 .workers = 1,
-			 /* (files have no handles, so OPEN may be skipped: Linux truncates by SETATTR) */
-			 .withheld = FUSE_ATOMIC_O_TRUNC | TRANSPORT_ALLOW_IDMAP,
-			 .begin = begin,
-			 .end = end,
-			 .left = remove_socket,
-			 .serve = serve };
+	nizwarf_transport by = {
+		.size = sizeof(by),
+		.program = "nizwarf-vhost",
+		.workers = 1,
+		/* (files have no handles, so OPEN may be skipped: Linux truncates by SETATTR) */
+		.withheld = FUSE_ATOMIC_O_TRUNC | NIZWARF_WANT_ALLOW_IDMAP,
+		.begin = begin,
+		.end = end,
+		.left = remove_socket,
+		.serve = serve
+	};
 	const char *trace = NULL;
 	int listener, status;
 

@@ -14,7 +14,7 @@
 /* clang-format on */
 
 /*@ predicate has_chain(struct worker *w) =
-      \valid(w) && \valid_read(by) && \separated(w, by, &by) && w->copied <= LONGEST && w->len <= LONGEST &&
+      \valid(w) && \valid_read(machine) && \separated(w, machine, &machine) && w->copied <= LONGEST && w->len <= LONGEST &&
       w->room_len <= LONGEST && 1 <= w->segments <= PIECES + 1 && w->rooms <= PIECES;
 
     predicate is_mapped(struct guest *g, struct worker *w) =
@@ -59,7 +59,7 @@ static int add_request(struct worker *w, const unsigned char *at, size_t len);
     ensures code: \result == 0 || \result == -1; */
 static int add_piece(struct worker *w, unsigned char *at, const nizwarf_piece *piece);
 
-/*@ requires \valid(w) && \valid_read(by) && \separated(w, by, &by) && is_mapped(g, w);
+/*@ requires \valid(w) && \valid_read(machine) && \separated(w, machine, &machine) && is_mapped(g, w);
     requires \valid_read(q) && \separated(w, q);
     requires \valid_read(q->descriptors + (0 .. 16 * q->size - 1));
     assigns w->len, w->copied, w->segments, w->rooms, w->room_len, w->places, w->request[0 .. LONGEST - 1], \result

@@ -15,7 +15,8 @@ static unsigned char memory[REGIONS][SHARED], marks[MARKS];
 static volatile int any;
 static struct guest front_end;
 static struct worker worker;
-static transport with;
+static nizwarf_transport with;
+static nizwarf_machine guest;
 
 /* The function that the transport calls, at its worst: the front end may disconnect while it has the
  * request; it may return any length, also one above the size of the reply buffer; and it may complete a
@@ -24,18 +25,18 @@ static int32_t serve(void *user, unsigned number, const struct iovec *request, s
 		     const struct iovec *reply, size_t reply_count, size_t *len)
 {
 	static const unsigned char bytes[4096];
-	transport_later *kept;
+	nizwarf_request *kept;
 
 	(void)user, (void)number, (void)request, (void)request_count, (void)reply, (void)reply_count;
 	front_end.gone = any;
 	*len = Frama_C_unsigned_long_interval(0, LONGEST);
-	kept = any ? transport_keep() : NULL; /* NULL too, if it can't be kept */
+	kept = any ? nizwarf_request_keep() : NULL; /* NULL too, if it can't be kept */
 	if (!kept)
 		return any;
 	if (any)
-		transport_complete(kept, any, bytes, sizeof(bytes));
+		nizwarf_request_complete(kept, any, bytes, sizeof(bytes));
 	else if (any)
-		transport_complete(kept, any, bytes, 0);
+		nizwarf_request_complete(kept, any, bytes, 0);
 	return NIZWARF_CALL;
 }
 
@@ -93,12 +94,13 @@ int main(void)
 	int64_t len = 0;
 
 	Frama_C_make_unknown((char *)memory, sizeof(memory));
-	with = (transport){ .program = "analysed", .serve = serve };
-	with.workers = Frama_C_unsigned_int_interval(1, TRANSPORT_MOST_WORKERS);
-	with.writes_in_place = any;
-	with.recall = any ? recall : NULL;
+	with = (nizwarf_transport){ .program = "analysed", .serve = serve };
+	with.workers = Frama_C_unsigned_int_interval(1, NIZWARF_MAX_WORKERS);
+	guest.writes_in_place = any;
+	guest.recall = any ? recall : NULL;
 	with.withheld = Frama_C_unsigned_long_interval(0, SIZE_MAX);
 	by = &with;
+	machine = &guest;
 	vhost_guest = &front_end;
 	pthread_mutex_init(&q->lock, NULL);
 	pthread_mutex_init(&guests, NULL);

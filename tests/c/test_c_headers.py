@@ -6,7 +6,7 @@ from building import HERE, REPOSITORY, need, run
 
 def test_headers_compile_as_c99():
     run("cc", "-std=c99", "-pedantic", "-Wall", "-Wextra", "-Wconversion", "-Werror", "-I", REPOSITORY / "include",
-        "-fsyntax-only", "-xc", "-", input='#include "nizwarf_ops.h"\n')
+        "-fsyntax-only", "-xc", "-", input='#include "nizwarf_fuse.h"\n')
 
 
 @pytest.fixture(scope="session", params=["gcc", "clang"])

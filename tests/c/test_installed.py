@@ -37,13 +37,13 @@ def installed(tmp_path_factory, packages):
 
 @pytest.fixture(scope="module", params=["shared", "static"])
 def linked(request, installed):
-    """Compiles a program with what pkg-config says alone: linked(SOURCE) returns its path."""
+    """Compiles a program with what pkg-config says of a package alone: linked.compile(SOURCE, PACKAGE) returns its path."""
     static = request.param == "static"
-    flags = run("pkg-config", "--cflags", "--libs", *["--static"] * static, "nizwarf", env=installed.environment).split()
 
-    def compile_one(source):
+    def compile_one(source, package="nizwarf"):
+        flags = run("pkg-config", "--cflags", "--libs", *["--static"] * static, package, env=installed.environment).split()
         program = installed.folder / f"{source.stem}-{request.param}"
-        run("cc", "-std=c11", "-O2", "-o", program, source, *flags, *["-static"] * static, env=installed.environment)
+        run("cc", "-O2", "-o", program, source, *flags, *["-static"] * static, env=installed.environment)
         return program
 
     return types.SimpleNamespace(static=static, compile=compile_one, **vars(installed))
@@ -76,7 +76,15 @@ def test_the_library_has_the_version_of_its_header(linked, tmp_path):
 def test_installed_examples_build_and_run(linked, examples):
     run(examples / "serve", env=linked.environment)
     check_hello(examples / "hello", env=linked.environment)
-    assert ("libnizwarf.so.1" in needed_by(examples / "hello")) != linked.static
+    assert ("libnizwarf-fuse.so.1" in needed_by(examples / "hello")) != linked.static
+
+
+def test_hello_c_needs_the_libraries_alone(linked):
+    """It is compiled by itself, as its first lines say."""
+    hello = linked.compile(linked.root / "usr/local/share/doc/nizwarf/examples/hello.c", "nizwarf-fuse")
+    check_hello(hello, env=linked.environment)
+    needed = {it for it in needed_by(hello) if not it.startswith("libc.")}
+    assert needed == (set() if linked.static else {"libnizwarf-fuse.so.1", "libnizwarf.so.1"})
 
 
 def test_the_installer_removes_all_that_it_installed(tmp_path, installed):

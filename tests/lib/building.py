@@ -54,6 +54,11 @@ def find_library(name):
     return shell('find_library "$1"; printf "%s\n" "${library[@]}"', name).splitlines()
 
 
+def find_fuse():
+    """The paths of the C files of libnizwarf-fuse, which need the library of nizwarf_codec."""
+    return shell('find_fuse; printf "%s\n" "${sources[@]}"').splitlines()
+
+
 def built_program(name, library="nizwarf_tree", *flags):
     """Builds the program nizwarf-NAME with a library for C and flags of the compiler, and returns its path."""
     return shell('build_transport "$@" >&2; echo "$transport"', name, library, *flags)

@@ -146,8 +146,8 @@ static void ask_naming(int device, const char *folder, const char *outside)
 /* Starts them, over a device. */
 static int start_naming(enum calls_filter filter)
 {
-	const transport by = { .program = "escape" };
-	const int device = fuse_device_open(&by);
+	const nizwarf_transport by = { .size = sizeof(by), .program = "escape", .workers = 1 };
+	const int device = nizwarf_fuse_open(&by);
 
 	of_naming = filter;
 	for (int i = 0; i < NAMING && device >= 0; i++)

@@ -21,7 +21,7 @@ enum {
 enum { SIZE = 8 * PAGE, SECONDS = 2 };
 
 static const char reply[] = "sixteen bytes ..";
-static transport_later *_Atomic kept;
+static nizwarf_request *_Atomic kept;
 static atomic_int calls;
 
 /* The first request is kept, the second takes long. */
@@ -30,7 +30,7 @@ static int32_t serve(void *user, unsigned worker, const struct iovec *request, s
 {
 	(void)user, (void)worker, (void)request, (void)segments, (void)room, (void)rooms, (void)len;
 	if (atomic_fetch_add(&calls, 1) == 0) {
-		kept = transport_keep();
+		kept = nizwarf_request_keep();
 		return kept ? NIZWARF_CALL : NIZWARF_OK;
 	}
 	sleep(SECONDS);
@@ -40,11 +40,11 @@ static int32_t serve(void *user, unsigned worker, const struct iovec *request, s
 /* The first request is answered once it is to be. */
 static void recall(void *user)
 {
-	transport_later *const one = atomic_exchange(&kept, NULL);
+	nizwarf_request *const one = atomic_exchange(&kept, NULL);
 
 	(void)user;
 	if (one)
-		transport_complete(one, NIZWARF_OK, reply, 16);
+		nizwarf_request_complete(one, NIZWARF_OK, reply, 16);
 }
 
 /* Two chains of a request and a room each. */
@@ -69,9 +69,12 @@ static int wrong(const char *what)
 
 int main(void)
 {
-	static const transport with = {
-		.program = "late_answer", .workers = 1, .serve = serve, .recall = recall
-	};
+	static const nizwarf_machine machine = { .recall = recall };
+	static const nizwarf_transport with = { .size = sizeof(with),
+						.program = "late_answer",
+						.workers = 1,
+						.serve = serve,
+						.machine = &machine };
 	unsigned char *memory = mmap(NULL, SIZE, PROT_READ | PROT_WRITE, MAP_SHARED | MAP_ANONYMOUS, -1, 0);
 	const int kick = eventfd(0, 0);
 	const uint64_t once = 1;

@@ -7,27 +7,27 @@
 #include <unistd.h>
 #include "transport.h"
 
-static transport_later *_Atomic kept;
+static nizwarf_request *_Atomic kept;
 
 static void *complete(void *unused)
 {
 	static unsigned char reply[1000];
 	const struct fuse_out_header header = { sizeof(reply), 0, 7 };
-	transport_later *later;
+	nizwarf_request *later;
 
 	(void)unused;
 	while (!(later = atomic_load(&kept)))
 		usleep(1000);
 	memcpy(reply, &header, sizeof(header));
 	puts("sending");
-	transport_complete(later, NIZWARF_OK, reply, sizeof(reply));
+	nizwarf_request_complete(later, NIZWARF_OK, reply, sizeof(reply));
 	return NULL;
 }
 
 static int32_t serve(void *user, unsigned worker, const struct iovec *request, size_t segments,
 		     const struct iovec *room, size_t rooms, size_t *len)
 {
-	transport_later *const later = transport_keep();
+	nizwarf_request *const later = nizwarf_request_keep();
 
 	(void)user, (void)worker, (void)request, (void)segments, (void)room, (void)rooms, (void)len;
 	atomic_store(&kept, later);
@@ -38,7 +38,9 @@ int main(void)
 {
 	static const char fill[200];
 	const struct fuse_in_header request = { .len = sizeof(request), .opcode = FUSE_GETATTR, .unique = 7 };
-	const transport by = { .program = "late_socket", .workers = 1, .serve = serve };
+	const nizwarf_transport by = {
+		.size = sizeof(by), .program = "late_socket", .workers = 1, .serve = serve
+	};
 	pthread_t thread;
 	int end[2];
 
@@ -50,5 +52,5 @@ int main(void)
 		;
 	if (send(end[1], &request, sizeof(request), 0) < 0 || pthread_create(&thread, NULL, complete, NULL))
 		return 2;
-	return fuse_device_serve(&by, end[0], NULL);
+	return nizwarf_fuse_serve(&by, end[0], NULL);
 }

@@ -15,15 +15,16 @@
  */
 #define _GNU_SOURCE
 #include <inttypes.h>
+#include <linux/fuse.h>
 #include <poll.h>
 #include <pthread.h>
 #include <stdio.h>
 #include <stdlib.h>
+#include <string.h>
 #include <sys/ioctl.h>
 #include <sys/mount.h>
 #include <unistd.h>
-#include "nizwarf_ops.h"
-#include "../../programs/transport/transport.h"
+#include "nizwarf_fuse.h"
 
 enum {
 	ROOT = 1,
@@ -66,8 +67,8 @@ static char old_name[64];		 /* before the last change: that is what is told */
 static uint64_t ticks, retrieved, wrong; /* changes; what came back, and wrongly */
 static int is_asked, is_pruned;		 /* a RETRIEVE, a PRUNE was sent */
 static const struct kind *kind;		 /* set before there are threads */
-static transport_notices notices = TRANSPORT_NO_NOTICES;
-static nizwarf_session session = { 0, 4096, TRANSPORT_PAYLOAD };
+static nizwarf_fuse_notices notices = NIZWARF_FUSE_NOTICES_INIT;
+static nizwarf_session session = { 0, 4096, NIZWARF_MAX_PAYLOAD };
 static nizwarf_scratch slots[WORKERS];
 
 /* ---- what changes, under the lock */
@@ -129,7 +130,7 @@ static void change_poll(void)
 /* ENOENT and ENOTCONN are no faults: the kernel knows no such file, or has unmounted. */
 static int send_notice(const void *notice, size_t len, const void *data, size_t data_len, const char *what)
 {
-	const int error = fuse_device_notify(&notices, notice, len, data, data_len);
+	const int error = nizwarf_fuse_notify(&notices, notice, len, data, data_len);
 
 	/* (an older Linux has no such notice: libfuse's tests skip then) */
 	if (error == EINVAL)
@@ -556,9 +557,11 @@ static const char *take_words(int count, char **words)
 
 int main(int count, char **words)
 {
-	const transport by = {
-		.program = "libfuse_examples", .workers = WORKERS, .notices = &notices, .serve = serve
-	};
+	const nizwarf_transport by = { .size = sizeof(by),
+				       .program = "libfuse_examples",
+				       .workers = WORKERS,
+				       .notices = &notices,
+				       .serve = serve };
 	const char *folder = take_words(count, words), *name = strrchr(words[0], '/');
 	pthread_t changes;
 	int device, status;
@@ -575,18 +578,18 @@ int main(int count, char **words)
 	if (kind->tell != tell_poll)
 		used.poll = NULL;
 	tick();
-	device = fuse_device_mount(&by, name, folder, MS_NOSUID | MS_NODEV, "");
+	device = nizwarf_fuse_mount(&by, name, folder, MS_NOSUID | MS_NODEV, "");
 	if (device < 0)
 		return 2;
 	if (kind->tell && pthread_create(&changes, NULL, change_each, NULL)) {
 		/* (nobody would serve what is mounted) */
-		fuse_device_detach(&by, folder);
+		nizwarf_fuse_detach(&by, folder);
 		return 2;
 	}
 	/* (it ends with the process) */
 	if (kind->tell)
 		pthread_detach(changes);
-	status = fuse_device_serve(&by, device, folder);
+	status = nizwarf_fuse_serve(&by, device, folder);
 	for (int i = 0; i < WORKERS; i++)
 		nizwarf_scratch_free(&slots[i]);
 	pthread_mutex_lock(&lock);

@@ -3,21 +3,22 @@
  * without `open`; the caller is told; an INTERRUPT ends a call; `destroy` comes once. All that with
  * default_permissions and without.
  *
- * Usage: mounted, as root. test_wrong_replies.py links it with the library, fuse_device.c and fuse_mount.c.
+ * Usage: mounted, as root. test_wrong_replies.py links it with the libraries.
  * Status 0: all is as it should be. */
 #define _GNU_SOURCE
 #include <fcntl.h>
+#include <linux/fuse.h>
 #include <pthread.h>
 #include <signal.h>
 #include <stdio.h>
 #include <stdlib.h>
+#include <string.h>
 #include <sys/mount.h>
 #include <sys/time.h>
 #include <sys/wait.h>
 #include <sys/xattr.h>
 #include <unistd.h>
-#include "nizwarf_ops.h"
-#include "../../programs/transport/transport.h"
+#include "nizwarf_fuse.h"
 
 /* Nodes: of BAD each answer says more bytes than were asked for. TOO_LONG is more than a link has for Linux, and
  * NO_ERROR no number of an error. */
@@ -182,7 +183,7 @@ static const nizwarf_ops ops = {
 	.destroy = on_destroy,
 	.interrupt = on_interrupt,
 };
-static nizwarf_session session = { 0, 4096, TRANSPORT_PAYLOAD };
+static nizwarf_session session = { 0, 4096, NIZWARF_MAX_PAYLOAD };
 
 /* Makes of some replies what Linux refuses. `room` has a whole reply, of which the transport is told another length
  * or error. */
@@ -317,8 +318,10 @@ static void client(void)
 /* Mounts it with these options, and has a client ask. */
 static int run(const char *options)
 {
-	const transport by = { .program = "mounted", .workers = WORKERS, .serve = serve };
-	const int device = fuse_device_mount(&by, "mounted", folder, MS_NOSUID | MS_NODEV, options);
+	const nizwarf_transport by = {
+		.size = sizeof(by), .program = "mounted", .workers = WORKERS, .serve = serve
+	};
+	const int device = nizwarf_fuse_mount(&by, "mounted", folder, MS_NOSUID | MS_NODEV, options);
 	int status, is_wrong;
 	pid_t child;
 
@@ -332,7 +335,7 @@ static int run(const char *options)
 		client();
 		_exit(0);
 	}
-	is_wrong = fuse_device_serve(&by, device, folder);
+	is_wrong = nizwarf_fuse_serve(&by, device, folder);
 	if (child < 0 || waitpid(child, &status, 0) != child || status || is_wrong || destroyed)
 		return 1;
 	nizwarf_end_ops(&ops, NULL, &session);
@@ -350,7 +353,7 @@ int main(void)
 		return perror(folder), 2;
 	for (is_spoilt = 0; is_spoilt < 2; is_spoilt++) {
 		status |= run("");
-		status |= run(",default_permissions");
+		status |= run("default_permissions");
 	}
 	for (int i = 0; i < WORKERS; i++)
 		nizwarf_scratch_free(&slots[i]);

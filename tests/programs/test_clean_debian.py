@@ -173,6 +173,6 @@ def test_hello_rs_is_built_by_cargo_and_its_file_is_read(debian):
 def test_removed_packages_leave_nothing(debian):
     if debian.is_unpacked:
         pytest.skip("requires a Debian that debootstrap made")
-    debian.run("apt-get", "purge", "-y", "nizwarf", "libnizwarf-dev", "libnizwarf1")
+    debian.run("apt-get", "purge", "-y", "nizwarf", "libnizwarf-dev", "libnizwarf-fuse1", "libnizwarf1")
     left = [it for top in ("usr", "etc", "var/lib/dpkg/info") for it in (debian.root / top).rglob("*nizwarf*")]
     assert not left

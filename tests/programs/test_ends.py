@@ -13,7 +13,7 @@ import threading
 import time
 
 import pytest
-from building import REPOSITORY, run
+from building import find_fuse, find_library, run
 from conftest import MountServer, SocketServer, end_all, has_sanitizer, wait_until
 from shapes import Op, record
 from vhost_user import GUEST, IN_HEADER, MQ, REPLY_ACK, SET_VRING_ENABLE, USER
@@ -138,8 +138,7 @@ def serve_any(request, scratch, serve):
 
 
 def test_a_signal_ends_a_transport_while_a_late_reply_waits_for_its_reader(build):
-    transport = REPOSITORY / "programs/transport"
-    program = build("late_socket.c", *(transport / it for it in ("fuse_device.c", "fuse_mount.c", "later.c")))
+    program = build("late_socket.c", *find_fuse(), *find_library("nizwarf_codec"))
     process = subprocess.Popen([program], stdout=subprocess.PIPE, text=True)
     try:
         assert process.stdout.readline() == "sending\n"

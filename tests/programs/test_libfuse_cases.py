@@ -11,11 +11,10 @@ import subprocess
 import sys
 
 import pytest
-from building import REPOSITORY, shell
+from building import REPOSITORY, find_fuse, shell
 
 pytestmark = [pytest.mark.fuse, pytest.mark.slow]
 SUITES = REPOSITORY / "out/suites"
-TRANSPORT = REPOSITORY / "programs/transport"
 EXAMPLES = ["ioctl", "poll", "invalidate_path", *(f"notify_{it}" for it in ("inval_inode", "inval_entry", "store_retrieve",
                                                                            "prune"))]
 CASES = ["notify/*", *(f"examples/{it}" for it in ("hello-direct", "ioctl", "poll", "passthrough-hp", "passthrough-hp-nocache",
@@ -41,8 +40,7 @@ def file_systems(libfuse, built_with_threads, build_program):
     """libfuse's folder of programs, in which the file systems are those here."""
     folder = built_with_threads.folder / "libfuse"
     shutil.copytree(libfuse / "built", folder, symlinks=True)
-    sources = [TRANSPORT / f"{it}.c" for it in ("fuse_device", "fuse_mount", "later")]
-    shutil.copy(built_with_threads.compile("tests/programs/libfuse_examples.c", *sources, "-pthread"), folder / "example/hello")
+    shutil.copy(built_with_threads.compile("tests/programs/libfuse_examples.c", *find_fuse(), "-pthread"), folder / "example/hello")
     for name in EXAMPLES:
         (folder / "example" / name).unlink(missing_ok=True)
         (folder / "example" / name).symlink_to("hello")

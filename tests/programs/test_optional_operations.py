@@ -17,11 +17,9 @@ import threading
 import time
 
 import pytest
-from building import PLAIN, REPOSITORY, run
+from building import PLAIN, find_fuse, run
 
 pytestmark = pytest.mark.fuse
-TRANSPORT = REPOSITORY / "programs/transport"
-SOURCES = [TRANSPORT / f"{it}.c" for it in ("fuse_device", "fuse_mount", "fuse_ring", "later", "uring")]
 # Commands of ioctl(2) of news.c: _IOR('n', 1, int) and _IOWR('n', 2) of 64 bytes.
 LENGTH, COUNT = 0x80046E01, 0xC0406E02
 # How many locks news.c keeps; how many wait at a time, which is the most over io_uring; processes of the stress, and its
@@ -106,7 +104,7 @@ def start_news(request, built_with_threads, scratch):
     program, folder, started = built_with_threads.folder / "c-news", scratch / "mounted", []
     folder.mkdir()
     if not program.exists():
-        built_with_threads.compile("examples/c/news.c", "-I", TRANSPORT, *SOURCES, "-pthread")
+        built_with_threads.compile("examples/c/news.c", *find_fuse(), "-pthread")
 
     def start():
         started.append(News(program, folder, request.param == "io_uring"))
@@ -155,7 +153,7 @@ def refused(does, *arguments):
 @pytest.mark.parametrize("built", [PLAIN], indirect=True, ids=["plain"])
 def test_without_a_thread_for_its_lines_it_ends_and_leaves_no_mount(built, scratch):
     (scratch / "no_thread.c").write_text("int no_thread(void) { return 11; }")
-    program = built.compile("examples/c/news.c", "-I", TRANSPORT, *SOURCES, "-pthread", "-Dpthread_create=no_thread",
+    program = built.compile("examples/c/news.c", *find_fuse(), "-pthread", "-Dpthread_create=no_thread",
                             scratch / "no_thread.c")
     (scratch / "mounted").mkdir()
     run(program, scratch / "mounted", status=1, seconds=20, stdin=subprocess.DEVNULL)

@@ -21,7 +21,7 @@ def sandbox_program(share, tmp_path_factory):
     folder = tmp_path_factory.mktemp("sandbox")
     has_filter = "with libseccomp" in subprocess.run([share, "--version"], stdout=subprocess.PIPE, text=True).stdout
     sources = [*(SHARE / it for it in ("share_sandbox.c", "share_users.c", "passthrough_who.c", "passthrough_ids.c")),
-               *(TRANSPORT / it for it in ("fuse_backing.c", "fuse_mount.c", "uring.c"))]
+               *(TRANSPORT / it for it in ("fuse_backing.c", "fuse_mount.c", "fusermount.c", "uring.c"))]
 
     def build(source):
         program = folder / source.removesuffix(".c")

@@ -1,13 +1,9 @@
 """A mount whose file system replies wrongly: the caller gets an error, and the mount goes on (mounted.c)."""
 import pytest
-from building import REPOSITORY, run
-
-TRANSPORT = REPOSITORY / "programs/transport"
+from building import find_fuse, run
 
 
 @pytest.mark.fuse
 def test_a_mount_goes_on_after_replies_that_linux_refuses(built):
-    run("timeout", "-k", "5", "60",
-        built.compile("tests/programs/mounted.c", *(TRANSPORT / f"{it}.c" for it in ("fuse_device", "fuse_mount", "later")),
-                      "-pthread"))
+    run("timeout", "-k", "5", "60", built.compile("tests/programs/mounted.c", *find_fuse(), "-pthread"))
     assert "mounted-" not in open("/proc/self/mounts").read()

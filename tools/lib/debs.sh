@@ -128,6 +128,7 @@ depends_of() {
                 # Of the C library the greatest version of a symbol, at the end.
                 libc.so.6) objdump -T "$file" | sed -nE 's/.*GLIBC_([0-9.]+).*/\1/p' >> "$glibc" ;;
                 "$soname") echo "libnizwarf1 (>= $release~)" ;;
+                "$fuse_soname") echo "libnizwarf-fuse1 (>= $release~)" ;;
                 ld-linux*) ;;
                 # (the first line, as `libcap-ng0:amd64: /lib/..`, up to the architecture or the next package)
                 *) dpkg-query -S "*/$name" | sed 's/[:,].*//;q' || wrong "no package of Debian has $name, which ${file##*/} needs" ;;

@@ -8,7 +8,7 @@ hold_pages() {
     local page example=$1/example.c status=0
     # (declared again after the header, where C refuses another form)
     awk -f "$here/packaging/prototypes.awk" "$1"/*.3 \
-        | cc -fsyntax-only -Werror -I "$here/include" -include nizwarf_ops.h -include nizwarf_tree.h -x c - || {
+        | cc -fsyntax-only -Werror -I "$here/include" -include nizwarf_fuse.h -include nizwarf_tree.h -x c - || {
         echo "A manual page shows a function with another prototype than the headers." >&2
         status=1
     }

@@ -7,6 +7,8 @@
 # one.
 # shellcheck disable=SC2034
 soname=libnizwarf.so.1
+# shellcheck disable=SC2034
+fuse_soname=libnizwarf-fuse.so.1
 
 # Sets `library` to what a program links, in order: find_library [NAME], which is nizwarf_tree where none is given. These
 # are the C files of the library, in `sources`, which are compiled with the program and its flags, as those of sanitizers;
@@ -47,14 +49,27 @@ compile_sources() {
     done
 }
 
-# Links the shared library of nizwarf_codec into a folder, by the names that it has when it is installed: link_shared FOLDER
+# Sets `sources` to the C files of the library libnizwarf-fuse.
+find_fuse() {
+    local names
+    read -ra names < <(make -s -f "$here/programs/Makefile" list-fuse)
+    sources=("${names[@]/#/$here/programs/transport/}")
+}
+
+# Links the shared libraries of nizwarf_codec and of /dev/fuse into a folder, by the names that they have when they are
+# installed: link_shared FOLDER
 link_shared() {
     local sources archive heap library
     find_library nizwarf_codec
-    rm -f "$1"/libnizwarf.so*
+    rm -f "$1"/libnizwarf.so* "$1"/libnizwarf-fuse.so*
     cc -std=c11 -O2 -fPIC -Wall -Wextra -Werror -I "$here/include" -shared -o "$1/$soname" -Wl,-soname,"$soname" -Wl,-z,defs \
         "${sources[@]}" -Wl,--whole-archive "$archive" -Wl,--no-whole-archive "$heap" || return
+    find_fuse
+    cc -std=c11 -O2 -fPIC -pthread -Wall -Wextra -Werror -I "$here/include" -shared -o "$1/$fuse_soname" \
+        -Wl,-soname,"$fuse_soname" -Wl,-z,defs -Wl,--version-script="$here/packaging/nizwarf-fuse.map" \
+        "${sources[@]}" "$1/$soname" || return
     ln -s "$soname" "$1/libnizwarf.so"
+    ln -s "$fuse_soname" "$1/libnizwarf-fuse.so"
 }
 
 # Whether the proved library is there, and as new as its sources: is_proved NAME
