@@ -34,7 +34,7 @@ impl<F: FileSystem> Server<F> {
 
     /// Serves the requests of a device that clients refer to.
     pub(crate) fn serve_shared(&self, device: &Arc<File>) -> io::Result<()> {
-        let client = Client::new(device);
+        let client = Client::new(device, &self.interrupts);
         let _ends = Serving::new(self, device, &client);
         let mut buffers = Buffers::new(&self.session());
         while self.serve_next(device, &client, &mut buffers, |_| ())? {}
@@ -52,7 +52,7 @@ impl<F: FileSystem> Server<F> {
         };
         show(request);
         let serve = || {
-            let reply = &mut [IoSliceMut::new(reply)];
+            let (_inside, reply) = (client.enter(), &mut [IoSliceMut::new(reply)]);
             self.serve_by(scratch, &[IoSlice::new(request)], reply, Some(client))
         };
         // Nothing is used again after a panic.
@@ -105,6 +105,7 @@ impl<'a, F: FileSystem> Serving<'a, F> {
     fn new(server: &'a Server<F>, device: &Arc<File>, client: &Client) -> Self {
         let mut serving = guard(&server.serving);
         if serving.threads == 0 {
+            server.interrupts.clear();
             server.quietly(|files| files.begin(client));
             serving.device = Some(Arc::clone(device));
         }

@@ -5,6 +5,7 @@ use crate::errno::Errno;
 use crate::ffi::Notice;
 use crate::optional::PollHandle;
 use crate::system;
+use std::cell::RefCell;
 use std::ffi::CStr;
 use std::fs::File;
 use std::io::{self, IoSlice, Write};
@@ -21,9 +22,14 @@ const LONGEST_NAME: usize = 1023;
 /// [`Mounted::notifier`](crate::Mounted::notifier), and [`FileSystem::begin`](crate::FileSystem::begin) by
 /// its [`Client`](crate::Client), return one.
 ///
-/// Notices are sent in the order of the calls here, but one may overtake a reply that was made before it. A
-/// notice of a node or a directory must not be sent in a call about it, because Linux may wait for the end of
-/// that call. It may be sent on another thread.
+/// Notices are sent in the order of the calls here, but one may overtake a reply that was made before it.
+///
+/// [`inval_inode`](Self::inval_inode), [`inval_entry`](Self::inval_entry),
+/// [`expire_entry`](Self::expire_entry), [`delete`](Self::delete) and [`store`](Self::store) return EDEADLK on
+/// a thread that is inside a call of this client, and send nothing. Linux may wait in them for the end of a
+/// call about the same node or directory, or for a WRITE of cached data, so that they and the call could wait
+/// for each other forever. A file system must send them on another thread, and a call about the same node or
+/// directory must not wait for that thread. The others may be sent inside a call.
 ///
 /// ```no_run
 /// # use nizwarf::{FileSystem, NoEntries};
@@ -55,7 +61,7 @@ impl Notifier {
     /// data from there if `len` is 0. If `offset` is negative, only the attributes are dropped. ENOENT if the
     /// client does not know the node.
     pub fn inval_inode(&self, node: u64, offset: i64, len: i64) -> io::Result<()> {
-        self.tell(Notice::InvalInode { node, offset, len }, &[])
+        self.tell_outside(Notice::InvalInode { node, offset, len }, &[])
     }
 
     /// Drops a cached name, with the names below it. ENOENT if the client does not cache it.
@@ -79,7 +85,7 @@ impl Notifier {
     /// Puts data into the cache of a file, from `offset` on. If they end after the file, that gets longer.
     pub fn store(&self, node: u64, offset: u64, data: &[u8]) -> io::Result<()> {
         let size = u32::try_from(data.len()).map_err(|_| Errno::EINVAL)?;
-        self.tell(Notice::Store { node, offset, size }, data)
+        self.tell_outside(Notice::Store { node, offset, size }, data)
     }
 
     /// Requests cached data of a file. [`FileSystem::notify_reply`](crate::FileSystem::notify_reply) receives
@@ -88,7 +94,8 @@ impl Notifier {
         self.tell(Notice::Retrieve { unique, node, offset, size }, &[])
     }
 
-    /// Reports that an event has occurred for which a POLL waits: the file is polled again.
+    /// Reports that an event has occurred for which a POLL waits: the file is polled again. It may be sent
+    /// inside any call, such as the WRITE that makes the file readable.
     pub fn wake(&self, handle: PollHandle) -> io::Result<()> {
         self.tell(Notice::Poll { handle: handle.0 }, &[])
     }
@@ -115,7 +122,17 @@ impl Notifier {
         if name.to_bytes().len() > LONGEST_NAME {
             return Err(Errno::ENAMETOOLONG.into());
         }
-        self.tell(notice, &[])
+        self.tell_outside(notice, &[])
+    }
+
+    /// Sends a notice, unless this thread is inside a call.
+    fn tell_outside(&self, notice: Notice<'_>, data: &[u8]) -> io::Result<()> {
+        let device = self.device.as_ptr();
+        // (a thread that ends is in no call)
+        if CALLS.try_with(|calls| calls.borrow().contains(&device)).unwrap_or(false) {
+            return Err(Errno::EDEADLK.into());
+        }
+        self.tell(notice, data)
     }
 
     /// Sends a notice, and the data that follow it.
@@ -136,6 +153,27 @@ impl Notifier {
     }
 }
 
+thread_local! {
+    /// The devices of the calls that this thread is inside.
+    static CALLS: RefCell<Vec<*const File>> = const { RefCell::new(Vec::new()) };
+}
+
+/// This thread is inside a call until this is dropped.
+pub(crate) struct Inside(());
+
+impl Inside {
+    pub fn new(device: &Weak<File>) -> Self {
+        CALLS.with(|calls| calls.borrow_mut().push(device.as_ptr()));
+        Inside(())
+    }
+}
+
+impl Drop for Inside {
+    fn drop(&mut self) {
+        CALLS.with(|calls| calls.borrow_mut().pop());
+    }
+}
+
 /// Writes one message to a device.
 pub(crate) fn write_both(mut device: &File, head: &[u8], data: &[u8]) -> io::Result<()> {
     let sent = if data.is_empty() {
@@ -144,4 +182,46 @@ pub(crate) fn write_both(mut device: &File, head: &[u8], data: &[u8]) -> io::Res
         device.write_vectored(&[IoSlice::new(head), IoSlice::new(data)])
     };
     sent.map(drop)
+}
+
+#[cfg(test)]
+mod tests {
+    use super::*;
+    use std::ffi::CString;
+    use std::os::unix::io::OwnedFd;
+    use std::os::unix::net::UnixStream;
+    use std::sync::Arc;
+    use std::thread;
+
+    #[test]
+    fn only_calls_of_this_client_on_this_thread_refuse_notices() {
+        let ((device, _peer), (other, _other_peer)) =
+            (UnixStream::pair().unwrap(), UnixStream::pair().unwrap());
+        let [device, other] = [device, other].map(|socket| Arc::new(File::from(OwnedFd::from(socket))));
+        let notifier = Notifier::new(Arc::downgrade(&device));
+        let name = CString::new("a").unwrap();
+        let send = || {
+            [
+                notifier.inval_inode(1, 0, 0),
+                notifier.inval_entry(1, &name),
+                notifier.expire_entry(1, &name),
+                notifier.delete(1, 2, &name),
+                notifier.store(1, 0, b"data"),
+            ]
+        };
+        let are_sent = || send().iter().all(Result::is_ok);
+        let are_refused = || send().iter().all(|sent| Errno::EDEADLK.is(sent.as_ref().unwrap_err()));
+        assert!(are_sent());
+        let outer = Inside::new(&Arc::downgrade(&device));
+        assert!(are_refused());
+        assert!(notifier.wake(PollHandle(1)).is_ok());
+        let inner = Inside::new(&Arc::downgrade(&other));
+        assert!(are_refused());
+        assert!(thread::scope(|scope| scope.spawn(are_sent).join().unwrap()));
+        drop(outer);
+        drop(inner);
+        assert!(are_sent());
+        let _other = Inside::new(&Arc::downgrade(&other));
+        assert!(are_sent());
+    }
 }

@@ -3,12 +3,12 @@
 
 use crate::answer::{Encoded, To};
 use crate::call::{Call, PendingCall};
-use crate::client::Client;
+use crate::client::{Client, Interrupts};
 use crate::codec::{withhold, Decoded, Refusal, Session};
 use crate::errno::numbered;
 use crate::ffi::Scratch;
 use crate::file_system::{Context, FileSystem};
-use crate::flags::FsOptions;
+use crate::flags::{Features, FsOptions};
 use crate::kinds;
 use crate::numbers::code;
 use std::fs::File;
@@ -23,6 +23,10 @@ pub(crate) const HEADER: usize = 16;
 /// Options that are by default agreed on only if they are wanted.
 const WANTED: FsOptions =
     FsOptions::from_bits_truncate(FsOptions::ATOMIC_O_TRUNC.bits() | FsOptions::ALLOW_IDMAP.bits());
+
+/// Options that are agreed on only if [`Features::LOCKS`] is enabled, because all locks would fail otherwise.
+const LOCKS: FsOptions =
+    FsOptions::from_bits_truncate(FsOptions::POSIX_LOCKS.bits() | FsOptions::FLOCK_LOCKS.bits());
 
 /// The result of serving a request.
 #[must_use = "the client waits for the reply"]
@@ -83,6 +87,7 @@ pub struct Server<F> {
     /// Whether there was an INIT, and no DESTROY after it.
     pub(crate) begun: AtomicBool,
     pub(crate) serving: Mutex<Serves>,
+    pub(crate) interrupts: Arc<Interrupts>,
 }
 
 /// The threads in [`Server::serve`].
@@ -117,6 +122,7 @@ impl<F: FileSystem> Server<F> {
             catches: false,
             begun: AtomicBool::new(false),
             serving: Mutex::default(),
+            interrupts: Arc::default(),
         }
     }
 
@@ -130,7 +136,7 @@ impl<F: FileSystem> Server<F> {
 
     /// Sets options that are removed from an INIT, as by [`withhold`](crate::withhold()). By default the set
     /// is empty. `ATOMIC_O_TRUNC` and `ALLOW_IDMAP` are always removed if [`FileSystem::init`] does not want
-    /// them.
+    /// them, and `POSIX_LOCKS` and `FLOCK_LOCKS` if [`Features::LOCKS`] is not enabled.
     #[must_use]
     pub fn withhold(self, options: FsOptions) -> Self {
         Server { withheld: options, ..self }
@@ -189,6 +195,8 @@ impl<F: FileSystem> Server<F> {
         match scratch.decode(&self.session(), request, total) {
             Decoded::Finished(mut done) => {
                 if let Some(unique) = done.interrupts {
+                    // (before the method, which may find the call, and answer it)
+                    self.interrupts.keep(unique);
                     self.quietly(|files| files.interrupt(unique));
                 }
                 Served {
@@ -238,7 +246,10 @@ impl<F: FileSystem> Server<F> {
     ) -> Encoded<'s> {
         let mut request: Vec<u8> = request.iter().flat_map(|piece| piece.to_vec()).collect();
         let (capable, to) = self.without(scratch, &mut request, self.withheld, (capable, to));
-        let want = self.call(|files| files.init(capable));
+        let want = self.call(|files| {
+            let want = files.init(capable)?;
+            Ok(if files.features().contains(Features::LOCKS) { want } else { want - LOCKS })
+        });
         let (_, to) = match want {
             Ok(want) => self.without(scratch, &mut request, self.wanted - want, (capable, to)),
             Err(_) => (capable, to),

@@ -89,6 +89,16 @@ impl FileSystem for Taking {
         *self.polled.lock().unwrap() = wake;
         Ok(0)
     }
+
+    /// Sends a notice inside the call.
+    fn unlink(&self, _: Context, parent: u64, name: &CStr) -> io::Result<()> {
+        self.notifier().inval_entry(parent, name)
+    }
+
+    /// Sends another one, which Linux accepts there.
+    fn rmdir(&self, _: Context, _: u64, _: &CStr) -> io::Result<()> {
+        self.notifier().wake(self.polled.lock().unwrap().unwrap())
+    }
 }
 
 /// Serves while a client does something.
@@ -193,6 +203,44 @@ fn limits_and_later_options_are_agreed_on() {
     serve(&server, |peer| {
         assert_eq!(peer.exchange(&init(0, u32::MAX, u32::MAX).done()).len(), 80);
         assert!(!server.options().contains(FsOptions::HAS_RESEND));
+    });
+}
+
+#[test]
+fn an_interrupt_may_come_before_its_call() {
+    let (server, taken) = Taking::served();
+    let mut scratch = Scratch::new();
+    for is_early in [true, false] {
+        serve(&server, |peer| {
+            if is_early {
+                peer.send(&Request::new(36, 0).u64(7).done());
+            }
+            peer.send(&lock(33, 1, 0).done());
+            let (unique, call, client) = taken.recv().unwrap();
+            // (another session, whose requests may have the same numbers)
+            assert_eq!((unique, client.was_interrupted(7)), (7, is_early));
+            assert!(!client.was_interrupted(8));
+            client.send(call.fail(&mut scratch, &Errno::EINTR.into()).reply()).unwrap();
+            assert_eq!(peer.receive(), fault(4));
+            assert!(!client.was_interrupted(7));
+            peer.send(&Request::new(36, 0).u64(7).done());
+            assert_eq!(peer.exchange(&Request::new(17, 1).done()).len(), 96);
+            assert!(client.was_interrupted(7));
+        });
+    }
+}
+
+#[test]
+fn a_notice_that_may_wait_for_a_call_is_not_sent_inside_it() {
+    let (server, _taken) = Taking::served();
+    serve(&server, |peer| {
+        assert_eq!(peer.exchange(&Request::new(10, 1).name("a").done()), fault(35));
+        // Another thread sends it, and this one others.
+        server.file_system().notifier().inval_entry(1, &CString::new("a").unwrap()).unwrap();
+        assert_eq!(peer.receive(), notice(3, &[words(&[1, 0, 1, 0]), b"a\0".to_vec()].concat()));
+        peer.exchange(&Request::new(40, 5).u64(8).u64(6 << 32).u32(1).u32(1).done());
+        assert_eq!(peer.exchange(&Request::new(11, 1).name("a").done()), notice(1, &words(&[0, 6])));
+        assert_eq!(peer.receive(), reply(&[]));
     });
 }
 

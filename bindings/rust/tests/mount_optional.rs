@@ -8,8 +8,8 @@ mod folder;
 use folder::{comes, number, Folder};
 use nizwarf::{
     kinds, spawn_mount, Attr, Call, Client, Context, Entry, Errno, Extensions, Features, FileSystem,
-    FsOptions, IoctlFlags, IoctlReply, Limits, Lock, LockType, Mounted, NoEntries, Notifier, OpenOptions,
-    PollHandle, Scratch, Statx, StatxTime, To, ZeroCopyReader, ZeroCopyWriter,
+    FsOptions, IoctlFlags, IoctlReply, Limits, Lock, LockType, MountOption, Mounted, NoEntries, Notifier,
+    OpenOptions, PollHandle, Scratch, Statx, StatxTime, To, ZeroCopyReader, ZeroCopyWriter,
 };
 use std::ffi::{CStr, CString};
 use std::fs::{self, File};
@@ -141,8 +141,12 @@ impl News {
 
     /// One that is mounted on a folder, and served by one thread.
     fn mounted(folder: &Folder) -> (Self, Mounted) {
+        News::mounted_with(folder, 1)
+    }
+
+    fn mounted_with(folder: &Folder, threads: usize) -> (Self, Mounted) {
         let files = News::new();
-        let mounted = spawn_mount(files.clone(), &folder.0, &[]).unwrap();
+        let mounted = spawn_mount(files.clone(), &folder.0, &[MountOption::Threads(threads)]).unwrap();
         (files, mounted)
     }
 }
@@ -176,6 +180,9 @@ impl FileSystem for News {
                 if lock.kind == LockType::Unlock || state.in_the_way(&held).is_none() {
                     state.change(held);
                     client.send(to.answer(&mut Scratch::new(), Ok(())).reply()).unwrap();
+                } else if client.was_interrupted(ctx.unique) {
+                    let mut scratch = Scratch::new();
+                    client.send(to.fail(&mut scratch, &Errno::EINTR.into()).reply()).unwrap();
                 } else {
                     let client = client.clone();
                     state.waiting.push(Waiting { unique: ctx.unique, held, to, client });
@@ -362,24 +369,57 @@ fn detach(folder: &Folder, flags: c_int) -> Result<c_int, i32> {
     done(unsafe { umount2(path.as_ptr(), flags) })
 }
 
-/// Programs lock a mount that one thread serves, so that a lock that waits must not hold that thread.
+/// Programs lock a mount. If one thread serves it, a lock that waits must not hold that thread.
 #[test]
 fn locks_are_those_of_linux() {
     let folder = folder!("programs");
-    let (files, mounted) = News::mounted(&folder);
     let program = concat!(env!("CARGO_MANIFEST_DIR"), "/../../tests/programs/locks.py");
     // (the packed crate does not have it)
-    if fs::metadata(program).is_ok() {
+    if fs::metadata(program).is_err() {
+        return;
+    }
+    for threads in [1, 4] {
+        let (files, mounted) = News::mounted_with(&folder, threads);
         let mut command = Command::new("python3");
         command.args([program, "--no-ofd-close"]).arg(folder.0.join("news"));
         match command.output() {
             Ok(said) => assert!(said.status.success(), "{said:?}"),
             Err(error) => eprintln!("programs: python3: {error}"),
         }
-        // (one guard: before Rust 1.68 a first one would live until the end of the statement)
-        let state = files.state();
-        assert!(state.held.is_empty() && state.waiting.is_empty());
+        let is_free = || {
+            // (one guard: before Rust 1.68 a first one would live until the end of the statement)
+            let state = files.state();
+            state.held.is_empty() && state.waiting.is_empty()
+        };
+        // (with several threads the last RELEASE may still be on its way)
+        assert!(comes(is_free));
+        mounted.unmount().unwrap();
     }
+}
+
+/// Programs that wait for a lock are killed while they begin to wait, so that the interrupt, on another thread,
+/// may come before its call is taken.
+#[test]
+fn no_interrupt_is_lost() {
+    let folder = folder!("interrupts");
+    let (files, mounted) = News::mounted_with(&folder, 4);
+    let holder = open(&folder);
+    lock(&holder, LOCK_EX).unwrap();
+    for round in 0..40 {
+        let mut command = Command::new("flock");
+        let mut program = match command.arg(folder.0.join("news")).arg("true").spawn() {
+            Ok(program) => program,
+            Err(error) => {
+                eprintln!("interrupts: flock: {error}");
+                break;
+            }
+        };
+        thread::sleep(Duration::from_micros(500 * round));
+        program.kill().unwrap();
+        assert!(comes(|| program.try_wait().unwrap().is_some()), "round {round}");
+    }
+    assert!(files.state().waiting.is_empty());
+    drop(holder);
     mounted.unmount().unwrap();
 }
 

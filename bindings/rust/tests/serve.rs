@@ -160,7 +160,8 @@ fn options_that_only_some_serve_are_agreed_on_if_they_are_wanted() {
     for (want, expected) in [
         (FsOptions::empty(), all - special),
         (FsOptions::ATOMIC_O_TRUNC, all - FsOptions::ALLOW_IDMAP),
-        (special | FsOptions::FLOCK_LOCKS, all | FsOptions::FLOCK_LOCKS),
+        // (it serves no locks)
+        (special | FsOptions::DONT_MASK | FsOptions::FLOCK_LOCKS, all | FsOptions::DONT_MASK),
     ] {
         assert_eq!(agreed(&of(want), &init(0, u32::MAX, u32::MAX)), (expected, FsOptions::all()));
     }

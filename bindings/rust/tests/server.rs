@@ -4,9 +4,9 @@ mod common;
 
 use common::diary::{each_call, entry, moves, Diary, Row};
 use common::{fault, record, reply, words, Request};
-use nizwarf::{FileSystem, FsOptions, NoEntries, Refusal, Scratch, Served, Server, Session};
+use nizwarf::{Features, FileSystem, FsOptions, NoEntries, Refusal, Scratch, Served, Server, Session};
 use std::fs::File;
-use std::io::{IoSlice, IoSliceMut};
+use std::io::{self, IoSlice, IoSliceMut};
 use std::panic::{catch_unwind, AssertUnwindSafe};
 
 /// Has the default of each method.
@@ -229,6 +229,35 @@ fn options_stand_from_init_to_destroy() {
         }
         assert_eq!(server.file_system().take(), ["destroy"]);
         assert!(server.options().is_empty());
+    }
+}
+
+/// Wants locks, and serves them or not.
+struct Locks(Features);
+
+impl FileSystem for Locks {
+    type Inode = u64;
+    type Handle = u64;
+    type DirIter = NoEntries;
+
+    fn init(&self, capable: FsOptions) -> io::Result<FsOptions> {
+        assert_eq!(capable, FsOptions::POSIX_LOCKS | FsOptions::FLOCK_LOCKS | FsOptions::DONT_MASK);
+        Ok(capable)
+    }
+
+    fn features(&self) -> Features {
+        self.0
+    }
+}
+
+#[test]
+fn locks_that_are_not_served_are_not_agreed_on() {
+    let init = Request::new(26, 0).u32(7).u32(38).u32(0).u32(1 << 1 | 1 << 6 | 1 << 10);
+    for (features, agreed) in [(Features::LOCKS, 0x442), (Features::all() - Features::LOCKS, 0x40)] {
+        let server = Server::new(Locks(features));
+        let sent = serve(&server, &init);
+        assert_eq!(server.options().bits(), agreed);
+        assert_eq!(u64::from(u32::from_le_bytes(sent[28..32].try_into().unwrap())), agreed);
     }
 }
 

@@ -90,7 +90,8 @@ impl<FS: Filesystem> Session<FS> {
     /// Serves requests up to the INIT.
     fn shake_hands(&self) -> io::Result<()> {
         let (device, adapter) = (&self.mount.0.device, self.server.file_system());
-        let (client, mut buffers) = (Client::new(device), Buffers::new(&self.server.session()));
+        let client = Client::new(device, &self.server.interrupts);
+        let mut buffers = Buffers::new(&self.server.session());
         while !adapter.has_begun()? {
             if !self.server.serve_next(device, &client, &mut buffers, |it| adapter.see(it))? {
                 return Err(Errno::ENOTCONN.into());
