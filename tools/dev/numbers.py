@@ -42,7 +42,7 @@ KNOWN = set(re.findall(r"NIZWARF_\w+", read("include/*.h")))
 ENUMS = {it[0]: it for it in (re.findall(r"^\tNIZWARF_(\w+) =", body, re.M) for body in re.findall(r"^enum \{(.*?)^\}", HEADER, re.M | re.S)) if it}
 SIZES = {"u64": 8, "usize": 8, "*const u8": 8, "u32": 4, "i32": 4, "u16": 2}
 faults, asserts = [], []
-PREAMBLE = ["#define _GNU_SOURCE", *(f"#include <{it}.h>" for it in ("dirent", "fcntl", "stddef", "stdio", "sys/stat", "sys/xattr", "unistd",
+PREAMBLE = ["#define _GNU_SOURCE", *(f"#include <{it}.h>" for it in ("dirent", "fcntl", "poll", "stddef", "stdio", "sys/stat", "sys/xattr", "unistd",
                                                                     "linux/fuse")),
             '#include "nizwarf.h"', "#define SIZE(s, f) sizeof(((s *)0)->f)"]
 
@@ -82,7 +82,7 @@ for module, prefix in (("has", "HAS_"), ("kind", "REPLY_"), ("code", "")):
     for name, value in re.findall(r"const (\w+): \w+ = ([\d <]+);", part(RUST, f"mod {module} {{", "}")):
         number("bindings/rust", name, value, prefix)
 # Those of Linux, by the C library's headers.
-for name, value in re.findall(r"\b([A-Z]+_\w+) = (0\w+|\d+),", read("bindings/rust/src/consts.rs")):
+for name, value in re.findall(r"\b([A-Z]+_\w+|POLL\w+) = (0\w+|\d+),", read("bindings/rust/src/consts.rs")):
     same(f"{name} == {int(value, 0)}", "bindings/rust, consts")
 # The names that vfs_print has for opcodes, of which nizwarf-decode is made.
 OPCODES = dict(re.findall(r"^    (\w+) = (\d+),", part(read("crates/vfs_flags/src/opcode.rt"), "pub enum Opcode {", "}"), re.M))

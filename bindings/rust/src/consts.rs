@@ -30,6 +30,10 @@ constants! {
      [`setlk`](crate::FileSystem::setlk) it is a [`LockType`](crate::LockType)." {
         F_RDLCK = 0, F_WRLCK = 1, F_UNLCK = 2,
     }
+    "An event of `poll(2)`, for [`poll`](crate::FileSystem::poll)." {
+        POLLIN = 0x1, POLLPRI = 0x2, POLLOUT = 0x4, POLLERR = 0x8, POLLHUP = 0x10, POLLRDNORM = 0x40,
+        POLLWRNORM = 0x100,
+    }
     "A permission that [`access`](crate::FileSystem::access) checks. `F_OK` has no bit." {
         F_OK = 0, X_OK = 1, W_OK = 2, R_OK = 4,
     }
