@@ -418,9 +418,9 @@ impl To<kinds::Bytes> {
 }
 
 impl To<kinds::BytesOrSize> {
-    /// Answers with a text, or with its length if the `size` of the call is 0. In that case a text may be
-    /// given as well, and its length is sent. If the text is longer than `size`, the reply is ERANGE; if only
-    /// its length is given although `size` is not 0, the reply is EIO.
+    /// Answers with a value or a list of names, or with the length if the `size` of the call is 0. The value
+    /// or list may be given in that case, too; then its length is sent. If it is longer than `size`, the reply
+    /// is ERANGE; if only the length is given although `size` is not 0, the reply is EIO.
     #[inline]
     pub fn answer<T: Into<GetxattrReply>>(
         mut self, scratch: &mut Scratch, result: io::Result<T>,

@@ -288,9 +288,12 @@ calls! {
     /// | `mode`, `rdev`, `umask` | the type and permissions, the device number, and the mask of `mknod(2)` |
     /// | `offset` | an offset in a file in bytes; in a directory, that of the last item, or 0 |
     /// | `size` | how many bytes to read at most, or to write |
-    /// | `lock_owner` | the owner of POSIX locks |
+    /// | `lock_owner` | the owner of a lock: of a POSIX lock the process, of one of `flock(2)` the open file |
     /// | `kill_priv` | whether to clear the set-user-ID and set-group-ID bits |
     /// | `to` | answers the call; the type says with what |
+    ///
+    /// (Strictly, the owner of a POSIX lock is the table of descriptors, `files_struct`, which `clone(2)` may
+    /// let several processes share.)
     #[non_exhaustive]
     #[allow(missing_docs)] // of fields: the table above documents them
     #[must_use = "the client waits for the reply"]
@@ -377,8 +380,9 @@ calls! {
         /// Returns statistics of the file system.
         STATFS = 17: Statfs { node } -> Statfs
             by statfs(node.into());
-        /// Closes a file. If `flush` is set, it must be flushed as by a FLUSH; if `flock_release` is set, its
-        /// locks of `flock(2)` must be released.
+        /// Closes a file. If `flush` is set, it must be flushed as by a FLUSH; if `flock_release` is set, the
+        /// locks of `flock(2)` of `lock_owner` must be released. `lock_owner` is `None` unless one of both is
+        /// set.
         RELEASE = 18: Release { node, flags, handle, flush, flock_release, lock_owner } -> Status
             by release(node.into(), flags, handle.into(), flush, flock_release, lock_owner);
         /// Synchronizes a file, or only its data if `datasync` is set.
@@ -396,7 +400,8 @@ calls! {
         /// Removes an extended attribute.
         REMOVEXATTR = 24: Removexattr { node, name } -> Status
             by removexattr(node.into(), &name);
-        /// A descriptor of an open file is closed.
+        /// A descriptor of an open file is closed. The POSIX locks of `lock_owner` on this file must be
+        /// released, because Linux sends no SETLK for that.
         FLUSH = 25: Flush { node, handle, lock_owner = owner } -> Status
             by flush(node.into(), handle.into(), lock_owner);
         /// Closes a directory.

@@ -89,18 +89,18 @@ pub trait DirectoryIterator {
 /// The answer to a GETXATTR.
 #[derive(Clone, Debug, PartialEq, Eq)]
 pub enum GetxattrReply {
-    /// The value.
+    /// The value, whatever `size` is: if it is 0, the length of the value is sent.
     Value(Vec<u8>),
-    /// The length of the value, if `size` is 0.
+    /// The length of the value. It may be returned only if `size` is 0.
     Count(u32),
 }
 
 /// The answer to a LISTXATTR.
 #[derive(Clone, Debug, PartialEq, Eq)]
 pub enum ListxattrReply {
-    /// The names, each with a NUL.
+    /// The names, each with a NUL, whatever `size` is: if it is 0, the length of the list is sent.
     Names(Vec<u8>),
-    /// The length of the list, if `size` is 0.
+    /// The length of the list. It may be returned only if `size` is 0.
     Count(u32),
 }
 
@@ -138,13 +138,24 @@ pub struct SecContext {
 /// The data of a WRITE. They can be written to a file directly, or read as bytes.
 ///
 /// ```
-/// use nizwarf::ZeroCopyReader;
+/// use nizwarf::{Errno, ZeroCopyReader};
 /// use std::fs::File;
-/// use std::io;
+/// use std::io::{self, Read};
 ///
 /// /// `FileSystem::write` over a file.
 /// fn write<R: ZeroCopyReader>(file: &File, mut r: R, size: u32, offset: u64) -> io::Result<usize> {
 ///     r.write_to_file_at(file, size as usize, offset, None)
+/// }
+///
+/// /// And over memory, of at most 1 MiB.
+/// fn write_text<R: ZeroCopyReader>(text: &mut Vec<u8>, r: R, size: u32, offset: u64) -> io::Result<usize> {
+///     let mut data = Vec::new();
+///     r.take(size.into()).read_to_end(&mut data)?;
+///     let from = usize::try_from(offset).map_err(|_| Errno::EFBIG)?;
+///     let end = from.checked_add(data.len()).filter(|end| *end <= 1 << 20).ok_or(Errno::EFBIG)?;
+///     text.resize(text.len().max(end), 0);
+///     text[from..end].copy_from_slice(&data);
+///     Ok(data.len())
 /// }
 /// ```
 pub trait ZeroCopyReader: io::Read {
@@ -250,12 +261,14 @@ pub trait FileSystem {
     /// Begins a session, and returns the options that the file system wants. Those that are not in `capable`
     /// are ignored. By default it wants no options.
     ///
-    /// Two of them require something of the file system:
+    /// Some of them require something of the file system:
     ///
     /// - With [`ATOMIC_O_TRUNC`](FsOptions::ATOMIC_O_TRUNC) [`open`](Self::open) must truncate a file that it
     ///   opens with `O_TRUNC`. Without it Linux calls [`setattr`](Self::setattr) for that.
     /// - With [`ALLOW_IDMAP`](FsOptions::ALLOW_IDMAP) Linux mounts only with `default_permissions`, and the
     ///   [`Context`] has a user and a group only in calls that create a node: otherwise both are 2^32 - 1.
+    /// - [`POSIX_LOCKS`](FsOptions::POSIX_LOCKS) and [`FLOCK_LOCKS`](FsOptions::FLOCK_LOCKS) are ignored
+    ///   unless [`features`](Self::features) has [`LOCKS`](Features::LOCKS).
     ///
     /// Some others, which [`withhold`](crate::withhold()) lists, are agreed on even if they are not wanted,
     /// unless [`Server::withhold`](crate::Server::withhold) removes them.
@@ -269,8 +282,11 @@ pub trait FileSystem {
     fn destroy(&self) {}
 
     /// Interrupts the request of this number, which is that of its [`Context`], because its caller got a
-    /// signal. Its call may return EINTR. Another thread may be in that call, or may not have begun it, or
-    /// may have answered it already. By default it does nothing.
+    /// signal. Its call should return EINTR: the caller waits until it is answered, even after SIGKILL.
+    ///
+    /// Another thread may be in that call, or may not have begun it, or may have answered it already. So a
+    /// call that waits must check [`Client::was_interrupted`] first, as in the example of
+    /// [`take`](Self::take). By default it does nothing.
     fn interrupt(&self, unique: u64) {}
 
     /// Looks a name up.
@@ -364,7 +380,9 @@ pub trait FileSystem {
             lock_owner: Option<u64>, delayed_write: bool, kill_priv: bool, flags: u32,
         ) -> io::Result<usize>;
 
-        /// Flushes a file. It is called whenever a descriptor of an open file is closed.
+        /// Flushes a file. It is called whenever a descriptor of an open file is closed. A file system that
+        /// serves locks must release the POSIX locks of `lock_owner` on this file, because Linux calls no
+        /// [`setlk`](Self::setlk) for that.
         fn flush(
             &self, ctx: Context, inode: Self::Inode, handle: Self::Handle, lock_owner: u64,
         ) -> io::Result<()>;
@@ -381,7 +399,8 @@ pub trait FileSystem {
         ) -> io::Result<()>;
 
         /// Closes a file. With `flush` it must also flush it, as [`flush`](Self::flush); with `flock_release`
-        /// it must release the locks of `flock(2)`.
+        /// it must release the locks of `flock(2)` of `lock_owner`. `lock_owner` is `None` unless `flush` or
+        /// `flock_release` is set.
         fn release(
             &self, ctx: Context, inode: Self::Inode, flags: u32, handle: Self::Handle, flush: bool,
             flock_release: bool, lock_owner: Option<u64>,
@@ -398,14 +417,16 @@ pub trait FileSystem {
             extra_flags: SetxattrFlags,
         ) -> io::Result<()>;
 
-        /// Returns an extended attribute, or its length if `size` is 0. If the value is longer than `size`,
-        /// the reply is ERANGE.
+        /// Returns an extended attribute. A file system can ignore `size`, because it may return a
+        /// [`Value`](GetxattrReply::Value) in any case: if `size` is 0, the length of the value is sent, and
+        /// if the value is longer than `size`, the reply is ERANGE.
         fn getxattr(
             &self, ctx: Context, inode: Self::Inode, name: &CStr, size: u32,
         ) -> io::Result<GetxattrReply>;
 
-        /// Returns the names of all extended attributes, or their length if `size` is 0. If the names are
-        /// longer than `size`, the reply is ERANGE.
+        /// Returns the names of all extended attributes. A file system can ignore `size`, because it may
+        /// return [`Names`](ListxattrReply::Names) in any case: if `size` is 0, the length of the list is
+        /// sent, and if the list is longer than `size`, the reply is ERANGE.
         fn listxattr(&self, ctx: Context, inode: Self::Inode, size: u32) -> io::Result<ListxattrReply>;
 
         /// Removes an extended attribute.
@@ -457,8 +478,9 @@ pub trait FileSystem {
     /// Returns the optional operations that the file system serves, which virtiofsd does not. They must not
     /// change during a session. By default the set is empty.
     ///
-    /// If the reply to an operation is ENOSYS, Linux does not request that operation again during the
-    /// session.
+    /// If the reply to `bmap`, `poll`, `statx`, `tmpfile` or a copy of 64 bits is ENOSYS, Linux does not
+    /// request that operation again during the session. If the reply to `getlk`, `setlk` or `ioctl` is
+    /// ENOSYS, only that caller's operation fails, and Linux requests later ones.
     fn features(&self) -> Features {
         Features::empty()
     }
@@ -469,9 +491,9 @@ pub trait FileSystem {
         Limits::default()
     }
 
-    /// Receives the client, before the first request, so that it can send notices by [`Client::notifier`].
-    /// [`Server::serve`](crate::Server::serve) and a mount call it, each time the first thread begins. By
-    /// default it does nothing.
+    /// Receives the client, before the first request, so that it can send notices by [`Client::notifier`],
+    /// which it should keep. [`Server::serve`](crate::Server::serve) and a mount call it once per session, and
+    /// again only if all threads ended and serving begins anew. By default it does nothing.
     fn begin(&self, client: &Client) {}
 
     /// Takes a call, so that it can be answered later on any thread, by its [`To`](crate::To) and
@@ -480,26 +502,48 @@ pub trait FileSystem {
     /// call it for each request except INIT and DESTROY.
     ///
     /// A call that was taken must be answered: if its [`To`](crate::To) is dropped, its caller waits forever.
-    /// An [`interrupt`](Self::interrupt) has its number, `ctx.unique`, and may be called before it is taken
-    /// if there are several threads. Calls that are still unanswered at [`destroy`](Self::destroy) need no
-    /// answer, and replies to them are dropped.
+    /// So `take` must answer a lock itself if it is free by then, because nobody may remove a lock later.
+    /// Calls that are still unanswered at [`destroy`](Self::destroy) need no answer, and replies to them are
+    /// dropped.
+    ///
+    /// An [`interrupt`](Self::interrupt) has the number of the call, `ctx.unique`. If there are several
+    /// threads, it may come before the call is taken. So `take` must check [`Client::was_interrupted`] under
+    /// the lock under which `interrupt` searches for the call.
     ///
     /// ```
-    /// use nizwarf::{kinds, Call, Client, Context, Features, FileSystem, NoEntries, Scratch, To};
+    /// use nizwarf::{kinds, Call, Client, Context, Errno, Features, FileSystem, FsOptions, NoEntries};
+    /// use nizwarf::{Scratch, To};
+    /// use std::io;
     /// use std::sync::Mutex;
     ///
-    /// /// Locks, of which one waits until the other is removed.
-    /// #[derive(Default)]
-    /// struct Locks {
-    ///     waiting: Mutex<Vec<(To<kinds::Status>, Client)>>,
+    /// /// A call that waits, with its number.
+    /// struct Waiting(u64, To<kinds::Status>, Client);
+    ///
+    /// impl Waiting {
+    ///     fn answer(self, result: io::Result<()>) {
+    ///         // An error cannot be reported to anybody.
+    ///         let _ = self.2.send(self.1.answer(&mut Scratch::new(), result).reply());
+    ///     }
     /// }
     ///
+    /// #[derive(Default)]
+    /// struct State {
+    ///     is_locked: bool,
+    ///     waiting: Vec<Waiting>,
+    /// }
+    ///
+    /// /// One lock, for which calls wait. (A true file system has locks for each node and owner.)
+    /// #[derive(Default)]
+    /// struct Locks(Mutex<State>);
+    ///
     /// impl Locks {
-    ///     /// The lock is free.
-    ///     fn wake(&self) {
-    ///         if let Some((to, client)) = self.waiting.lock().unwrap().pop() {
-    ///             // An error cannot be reported to anybody.
-    ///             let _ = client.send(to.answer(&mut Scratch::new(), Ok(())).reply());
+    ///     /// Removes the lock, and gives it to a call that waits.
+    ///     fn unlock(&self) {
+    ///         let mut state = self.0.lock().unwrap();
+    ///         let next = state.waiting.pop();
+    ///         state.is_locked = next.is_some();
+    ///         if let Some(next) = next {
+    ///             next.answer(Ok(()));
     ///         }
     ///     }
     /// }
@@ -509,21 +553,41 @@ pub trait FileSystem {
     ///     type Handle = u64;
     ///     type DirIter = NoEntries;
     ///
+    ///     fn init(&self, _: FsOptions) -> io::Result<FsOptions> {
+    ///         Ok(FsOptions::POSIX_LOCKS)
+    ///     }
+    ///
     ///     fn features(&self) -> Features {
     ///         Features::LOCKS
     ///     }
     ///
-    ///     fn take<'r>(&self, _: Context, call: Call<'r>, client: &Client) -> Option<Call<'r>> {
+    ///     fn take<'r>(&self, ctx: Context, call: Call<'r>, client: &Client) -> Option<Call<'r>> {
     ///         match call {
     ///             Call::Setlkw { to, .. } => {
-    ///                 self.waiting.lock().unwrap().push((to, client.clone()));
+    ///                 let mut state = self.0.lock().unwrap();
+    ///                 let waiting = Waiting(ctx.unique, to, client.clone());
+    ///                 if !state.is_locked {
+    ///                     state.is_locked = true;
+    ///                     waiting.answer(Ok(()));
+    ///                 } else if client.was_interrupted(ctx.unique) {
+    ///                     waiting.answer(Err(Errno::EINTR.into()));
+    ///                 } else {
+    ///                     state.waiting.push(waiting);
+    ///                 }
     ///                 None
     ///             }
     ///             other => Some(other),
     ///         }
     ///     }
+    ///
+    ///     fn interrupt(&self, unique: u64) {
+    ///         let mut state = self.0.lock().unwrap();
+    ///         if let Some(at) = state.waiting.iter().position(|waiting| waiting.0 == unique) {
+    ///             state.waiting.remove(at).answer(Err(Errno::EINTR.into()));
+    ///         }
+    ///     }
     /// }
-    /// # Locks::default().wake();
+    /// # Locks::default().unlock();
     /// ```
     fn take<'r>(&self, ctx: Context, call: Call<'r>, client: &Client) -> Option<Call<'r>> {
         Some(call)
@@ -539,10 +603,13 @@ pub trait FileSystem {
             &self, ctx: Context, inode: Self::Inode, handle: Self::Handle, lock_owner: u64, lock: Lock,
         ) -> io::Result<Lock>;
 
-        /// Sets or removes a lock. If it conflicts with another one, it must return EAGAIN, or with `wait`
-        /// block until there is no conflict or an [`interrupt`](Self::interrupt) ends it with EINTR. With
-        /// `flock` the lock is one of `flock(2)`, of the whole file, and does not conflict with other locks
-        /// than these.
+        /// Sets or removes a lock. It replaces the locks that this owner has of these bytes, so that a lock
+        /// may be split or converted. If it conflicts with a lock of another owner, it must return EAGAIN, or
+        /// with `wait` block until there is no conflict or an [`interrupt`](Self::interrupt) ends it with
+        /// EINTR. With `flock` the lock is one of `flock(2)`, of the whole file, and conflicts only with other
+        /// locks of `flock(2)`.
+        ///
+        /// [`flush`](Self::flush) and [`release`](Self::release) must release locks, too.
         ///
         /// While it blocks, its thread serves no other request, not even the one that removes the other lock.
         /// So a file system should [`take`](Self::take) a [`Call::Setlkw`] that must wait.
@@ -562,8 +629,17 @@ pub trait FileSystem {
             arg: u64, input: &[u8], output_size: u32,
         ) -> io::Result<IoctlReply>;
 
-        /// Returns which of the events, by the bits of `poll(2)`, have occurred. If there is a `wake`, the
-        /// file system must pass it to [`Notifier::wake`](crate::Notifier::wake) when one occurs later.
+        /// Returns which of the events have occurred, by the bits of `poll(2)`, such as
+        /// [`POLLIN`](crate::consts::POLLIN). It must not block.
+        ///
+        /// If there is a `wake`, somebody waits for events of this open file, and the file system must pass it
+        /// once to [`Notifier::wake`](crate::Notifier::wake) when one occurs later. Linux then polls the file
+        /// again, with another `wake` if somebody still waits. A later one for an open file replaces the
+        /// earlier one. `wake` is `None` if nobody waits, for example because the timeout is 0.
+        ///
+        /// The notice may be sent inside a call, such as the WRITE that makes the file readable. A file that
+        /// is polled should be opened with [`DIRECT_IO`](OpenOptions::DIRECT_IO), because otherwise reads may
+        /// come from the cache, and the file system does not learn of them.
         fn poll(
             &self, ctx: Context, inode: Self::Inode, handle: Self::Handle, wake: Option<PollHandle>,
             events: u32,

@@ -117,7 +117,8 @@ flags! {
     FsOptions: u64 {
         /// Reads of a file may be concurrent.
         ASYNC_READ = 0;
-        /// POSIX locks are calls of the file system.
+        /// POSIX locks are calls of the file system. [`Server`](crate::Server) agrees to this only if
+        /// [`Features::LOCKS`] is enabled, because otherwise each lock would fail with ENOSYS.
         POSIX_LOCKS = 1;
         /// Requests other than READ and WRITE have handles.
         FILE_OPS = 2;
@@ -135,7 +136,8 @@ flags! {
         SPLICE_MOVE = 8;
         /// The client may splice on reading.
         SPLICE_READ = 9;
-        /// Locks of `flock(2)` are calls of the file system.
+        /// Locks of `flock(2)` are calls of the file system. [`Server`](crate::Server) agrees to this only if
+        /// [`Features::LOCKS`] is enabled, because otherwise each lock would fail with ENOSYS.
         FLOCK_LOCKS = 10;
         /// Directories have IOCTL.
         HAS_IOCTL_DIR = 11;
@@ -209,9 +211,10 @@ flags! {
     /// assert!(Features::all().contains(Features::LOCKS | Features::NOTIFY_REPLY));
     /// ```
     Features: u32 {
-        /// [`getlk`](crate::FileSystem::getlk) and [`setlk`](crate::FileSystem::setlk). Linux calls them only
-        /// if [`init`](crate::FileSystem::init) wants [`POSIX_LOCKS`](FsOptions::POSIX_LOCKS), and for
-        /// `flock(2)` [`FLOCK_LOCKS`](FsOptions::FLOCK_LOCKS).
+        /// [`getlk`](crate::FileSystem::getlk) and [`setlk`](crate::FileSystem::setlk). A file system that
+        /// serves locks must also want them in [`init`](crate::FileSystem::init): POSIX locks by
+        /// [`POSIX_LOCKS`](FsOptions::POSIX_LOCKS), and those of `flock(2)` by
+        /// [`FLOCK_LOCKS`](FsOptions::FLOCK_LOCKS). Otherwise Linux keeps them itself.
         LOCKS = 0;
         /// [`bmap`](crate::FileSystem::bmap). Linux calls it only for mounts of a block device, `fuseblk`.
         BMAP = 1;

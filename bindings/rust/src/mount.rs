@@ -80,8 +80,8 @@ impl MountOption {
     }
 }
 
-/// Mounts a file system on a folder, or a file, and serves it until it is unmounted: by `umount(8)`, or by
-/// `fusermount3 -u`.
+/// Mounts a file system on a folder, or a file, and serves it until it is unmounted, by `umount(8)` or
+/// `fusermount3 -u`, and no other mount namespace has a copy of the mount.
 ///
 /// Root mounts by `mount(2)`. Others, and root if that is not permitted, need the program `fusermount3`.
 ///
@@ -182,8 +182,8 @@ fn threads(options: &[MountOption]) -> usize {
     count.unwrap_or(1)
 }
 
-/// A mount that is served in the background. It is unmounted when this is dropped; if it is in use, it goes
-/// with its last user.
+/// A mount that is served in the background. It is unmounted when this is dropped; if it is in use, it
+/// disappears when its last user ends.
 ///
 /// ```no_run
 /// # use nizwarf::{FileSystem, NoEntries};

@@ -77,8 +77,8 @@ impl Lock {
     }
 }
 
-/// Identifies the caller that waits for an event of a file. [`Notifier::wake`](crate::Notifier::wake) wakes
-/// it.
+/// Identifies an open file for whose events callers wait. [`Notifier::wake`](crate::Notifier::wake) wakes
+/// them.
 #[derive(Clone, Copy, Debug, PartialEq, Eq, Hash)]
 pub struct PollHandle(pub(crate) u64);
 

@@ -129,7 +129,9 @@ pub trait Filesystem: Send + Sync + 'static {
             write_flags: WriteFlags, flags: OpenFlags, lock_owner: Option<LockOwner>, reply: ReplyWrite,
         );
 
-        /// Flushes a file. It is called whenever a descriptor of an open file is closed.
+        /// Flushes a file. It is called whenever a descriptor of an open file is closed. A file system that
+        /// serves locks must release the POSIX locks of `lock_owner` on this file, because Linux calls no
+        /// [`setlk`](Self::setlk) for that.
         fn flush(
             &self, req: &Request, ino: INodeNo, fh: FileHandle, lock_owner: LockOwner, reply: ReplyEmpty,
         );
