@@ -9,6 +9,9 @@ use std::io;
 use std::os::unix::ffi::OsStrExt;
 
 /// Informs the kernel of changes. It may be cloned and used on any thread, and does not keep a session.
+///
+/// Inside a method of the file system all but [`poll`](Self::poll) return EDEADLK, because the kernel may wait
+/// for the end of the call. They must be sent on another thread.
 #[derive(Clone, Debug)]
 pub struct Notifier(pub(super) Own);
 
