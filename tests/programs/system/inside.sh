@@ -129,7 +129,7 @@ put_edit() {
     cat > "/run/systemd/system/$1.d/edit.conf"
 }
 printf '%s\n' '[Socket]' SocketGroup=nogroup SocketMode=0660 | put_edit "$unit.socket"
-printf '%s\n' '[Service]' 'Environment="WORDS=--cache=always --xattr"' | put_edit "$unit.service"
+printf '%s\n' '[Service]' 'Environment="OPTIONS=--cache=always --xattr"' | put_edit "$unit.service"
 systemctl daemon-reload
 systemctl start "$unit.socket"
 [ "$(stat -c '%a %G' "$socket")" = "660 nogroup" ]
