@@ -4,8 +4,8 @@ The library libnizwarf decodes each request of the kernel, and encodes the reply
 those of a written grammar for all bytes that a request may have; this package is tested.
 """
 from ._library import Attr, Connection, Has, Lock, Option, Request, SetAttr, Statfs, Statx, StatxTime, ToSet
-from .file_system import DirectoryEntry, Entry, FileSystem, OpenFile, OpenFlag, Opened
+from .file_system import DirectoryEntry, Entry, FileSystem, OpenFile, OpenFlag, Opened, RenameFlag
 from .server import mount, serve
 
 __all__ = ["Attr", "Connection", "DirectoryEntry", "Entry", "FileSystem", "Has", "Lock", "OpenFile", "OpenFlag", "Opened",
-           "Option", "Request", "SetAttr", "Statfs", "Statx", "StatxTime", "ToSet", "mount", "serve"]
+           "Option", "RenameFlag", "Request", "SetAttr", "Statfs", "Statx", "StatxTime", "ToSet", "mount", "serve"]

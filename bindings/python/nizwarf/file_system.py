@@ -6,13 +6,25 @@ from typing import Any, Iterable, NamedTuple, Optional, Tuple
 
 from ._library import Attr, Connection, Lock, Request, SetAttr, Statfs
 
-# What open(2) and others tell the kernel of an open file: bits of `Opened.flags`.
 OpenFlag = enum.IntFlag("OpenFlag", "DIRECT_IO KEEP_CACHE NONSEEKABLE CACHE_DIR STREAM NOFLUSH PARALLEL_DIRECT_WRITES")
+OpenFlag.__doc__ = """How the kernel uses an open file: bits of `Opened.flags`.
+
+DIRECT_IO: nothing is cached, so that each read(2) and write(2) calls a method. KEEP_CACHE: what is cached of the file is still
+valid. NONSEEKABLE: lseek(2) fails. CACHE_DIR: the kernel caches the listing of the directory. STREAM: the file has no offset,
+as a pipe. NOFLUSH: closing a descriptor does not call `flush`. PARALLEL_DIRECT_WRITES: with DIRECT_IO the kernel need not wait
+for one write before the next."""
+RenameFlag = enum.IntFlag("RenameFlag", "NOREPLACE EXCHANGE WHITEOUT")
+RenameFlag.__doc__ = """The flags of renameat2(2).
+
+NOREPLACE: fail with EEXIST if the new name exists. EXCHANGE: exchange the two names, both of which must exist. WHITEOUT: leave
+a whiteout, a device with the number 0, at the old name. A file system must fail with EINVAL for flags that it does not
+support."""
 
 
 class Entry(NamedTuple):
-    """A name in a directory: the number of its node, and the node's attributes. The kernel caches both for so many
-    seconds. An entry counts as one lookup of its node until `forget`; node 0 says that there is no such name."""
+    """A name in a directory: the number of its node, and the node's attributes. The kernel caches the name for
+    `entry_timeout` seconds, and the attributes for `attr_timeout` seconds. An entry counts as one lookup of its node until
+    `forget`. If `node` is 0, there is no such name, and the kernel caches that."""
 
     node: int
     attr: Attr
@@ -32,8 +44,8 @@ class DirectoryEntry(NamedTuple):
 
 
 class OpenFile(NamedTuple):
-    """An open file or directory: the handle that `open` returned, the flags of open(2), and the owner of locks. What the
-    request does not have is 0."""
+    """An open file or directory: the handle that `open` returned, the flags of open(2), and the owner of locks. A field that
+    the request lacks is 0."""
 
     handle: int
     flags: int = 0
@@ -41,8 +53,8 @@ class OpenFile(NamedTuple):
 
 
 class Opened(NamedTuple):
-    """What is known of a file that was opened: a handle of your choice, bits of `OpenFlag`, and, if PASSTHROUGH is
-    enabled, the number that the ioctl FUSE_DEV_IOC_BACKING_OPEN returned, or 0."""
+    """The result of opening a file: a handle of your choice, bits of `OpenFlag`, and, if PASSTHROUGH is enabled, the number
+    that the ioctl FUSE_DEV_IOC_BACKING_OPEN returned, or 0."""
 
     handle: int = 0
     flags: int = 0
@@ -50,18 +62,20 @@ class Opened(NamedTuple):
 
 
 class FileSystem:
-    """A file system: override the methods that it has.
+    """A file system: override the methods that your file system supports.
 
     Names and meanings are those of libfuse's low-level interface. Nodes are numbers of your choice, of which 1 is the root;
     names are bytes without a slash. A method fails by raising OSError with a number, as in `raise OSError(errno.ENOENT)`.
     Any other exception, and a result that Linux would refuse, is logged, and is EIO for the process that waits. A method
     that is not overridden fails with ENOSYS, but `init`, `destroy`, `open`, `release`, `opendir`, `releasedir`, `statfs`,
-    `forget` and `interrupt` succeed. With one thread, which is the default of `mount`, no two methods run at once.
+    `forget` and `interrupt` succeed. With one thread, which is the default of `mount`, no two methods run at once, except
+    that another thread calls `interrupt` at the end of the session.
     """
 
     def init(self, connection: Connection) -> None:
-        """Begins the session. It may change `connection.want`: for instance, ATOMIC_O_TRUNC lets `open` truncate, where
-        otherwise `setattr` is called. Options that need methods which are not overridden are not enabled."""
+        """Begins the session. It may change `connection.want`: for instance, `connection.want |= Option.ATOMIC_O_TRUNC` lets
+        `open` truncate, where otherwise `setattr` is called. An option is not enabled if it needs a method that is not
+        overridden. An exception ends the session: `mount` unmounts, and raises it."""
 
     def destroy(self) -> None:
         """Ends the session. The kernel has no lookup and no open file from then on."""
@@ -70,11 +84,15 @@ class FileSystem:
         """Returns the entry of a name in a directory."""
 
     def forget(self, request: Request, node: int, count: int) -> None:
-        """Drops so many lookups of a node, which entries have counted."""
+        """Lowers the lookup count of a node by `count`. At 0 the kernel no longer uses the number."""
 
     def interrupt(self, unique: int) -> None:
-        """A process no longer waits for the request of this number, which may end with EINTR. This is of use only with
-        several threads."""
+        """A signal came for the process that waits for the request with this `request.unique`. The method should soon raise
+        EINTR; the process waits until then. It may come before the method begins or after it ends, and another thread calls
+        it. At the end of the session it is called for each request whose method has not returned.
+
+        Most file systems need not override it, because `request.interrupted` and `request.wait` know of interrupts, even of
+        those that come early. With one thread only the end of the session interrupts."""
 
     def getattr(self, request: Request, node: int, file: Optional[OpenFile]) -> Tuple[Attr, float]:
         """Returns the attributes of a node, and for how many seconds the kernel may cache them."""
@@ -87,10 +105,12 @@ class FileSystem:
         """Returns the target of a symbolic link, at most 4095 bytes."""
 
     def mknod(self, request: Request, parent: int, name: bytes, mode: int, rdev: int) -> Entry:
-        """Creates a file that is not opened, or a special file."""
+        """Creates a file without opening it, or a special file. `mode` has the file type and the permissions. The kernel has
+        applied the umask, unless `init` enables DONT_MASK; the method must then apply `request.umask`. `rdev` is the number
+        of a device, as os.makedev returns it."""
 
     def mkdir(self, request: Request, parent: int, name: bytes, mode: int) -> Entry:
-        """Creates a directory."""
+        """Creates a directory. `mode` has the permissions without the file type; the umask is handled as in `mknod`."""
 
     def unlink(self, request: Request, parent: int, name: bytes) -> None:
         """Removes a file. Its node is valid until it is forgotten."""
@@ -102,7 +122,7 @@ class FileSystem:
         """Creates a symbolic link."""
 
     def rename(self, request: Request, parent: int, name: bytes, new_parent: int, new_name: bytes, flags: int) -> None:
-        """Renames a file or a directory. `flags` are those of renameat2(2)."""
+        """Renames a file or a directory. `flags` are bits of `RenameFlag`."""
 
     def link(self, request: Request, node: int, new_parent: int, new_name: bytes) -> Entry:
         """Gives a node another name."""
@@ -118,10 +138,12 @@ class FileSystem:
         """Writes data, and returns how many bytes were written."""
 
     def flush(self, request: Request, node: int, file: OpenFile) -> None:
-        """A process closes one of its descriptors of the file. The locks of `file.lock_owner` end."""
+        """A process closes one of its descriptors of the file. If POSIX_LOCKS is enabled, this method must end the locks of
+        `file.lock_owner`."""
 
     def release(self, request: Request, node: int, file: OpenFile) -> None:
-        """The last descriptor of the file is closed, or the kernel did not get the handle."""
+        """The last descriptor of the file is closed, or the kernel did not get the handle. If `Has.RELEASE_FLOCK_UNLOCK` is in
+        `request.has`, it must end the lock of `file.lock_owner` that `flock` set."""
 
     def fsync(self, request: Request, node: int, datasync: bool, file: OpenFile) -> None:
         """Writes the file to storage, with `datasync` only its data."""
@@ -151,7 +173,7 @@ class FileSystem:
         """Returns the value of an extended attribute, or fails with ENODATA."""
 
     def listxattr(self, request: Request, node: int) -> Iterable[bytes]:
-        """Returns the names of the extended attributes."""
+        """Returns the names of the extended attributes, without a zero byte at the end."""
 
     def removexattr(self, request: Request, node: int, name: bytes) -> None:
         """Removes an extended attribute."""
@@ -160,7 +182,7 @@ class FileSystem:
         """Checks access(2). It is not called on a mount with default_permissions."""
 
     def create(self, request: Request, parent: int, name: bytes, mode: int, flags: int) -> Tuple[Entry, Opened]:
-        """Creates and opens a file."""
+        """Creates and opens a file. `mode` has the file type and the permissions; the umask is handled as in `mknod`."""
 
     def fallocate(self, request: Request, node: int, mode: int, offset: int, length: int, file: OpenFile) -> None:
         """Reserves or frees space, as fallocate(2)."""
@@ -176,15 +198,18 @@ class FileSystem:
         """Writes the file system to storage."""
 
     def getlk(self, request: Request, node: int, file: OpenFile, lock: Lock) -> Lock:
-        """Returns a lock that conflicts with this one of `file.lock_owner`, or one of type F_UNLCK. This method and
-        `setlk` are called if `init` enables POSIX_LOCKS; otherwise Linux keeps the locks."""
+        """Returns a lock that conflicts with this one of `file.lock_owner`, or one of type F_UNLCK. This method and `setlk`
+        are called if `init` enables POSIX_LOCKS, which needs `flush`, too; otherwise Linux keeps the locks."""
 
     def setlk(self, request: Request, node: int, file: OpenFile, lock: Lock, sleep: bool) -> None:
-        """Sets or ends a lock. With `sleep` it waits for it, for which the mount needs several threads."""
+        """Sets a lock, or ends it if its type is F_UNLCK. Its owner is `file.lock_owner`. If another owner has a lock that
+        conflicts, the method must raise EAGAIN, or, with `sleep`, wait as `request.wait` does. To wait, the mount needs
+        several threads."""
 
     def flock(self, request: Request, node: int, file: OpenFile, operation: int) -> None:
-        """Sets or ends a lock of flock(2), by fcntl.LOCK_SH, LOCK_EX or LOCK_UN, with LOCK_NB if it must not wait. It is
-        called if `init` enables FLOCK_LOCKS."""
+        """Sets or ends a lock of flock(2), by fcntl.LOCK_SH, LOCK_EX or LOCK_UN. Its owner is `file.lock_owner`. If another
+        owner has a lock that conflicts, the method must wait as in `setlk`, or, with LOCK_NB, raise EAGAIN. It is called if
+        `init` enables FLOCK_LOCKS; `release` must end the lock."""
 
     def bmap(self, request: Request, node: int, block_size: int, block: int) -> int:
         """Returns the block of the device for a block of the file."""
@@ -193,12 +218,14 @@ class FileSystem:
               out_size: int) -> Tuple[int, bytes]:
         """Returns the result of ioctl(2), and at most `out_size` bytes for the caller."""
 
-    def poll(self, request: Request, node: int, file: OpenFile, events: int, handle: Optional[int]) -> int:
-        """Returns which events are there. With a handle `Connection.wake` must be called
-        with it at the next change, if nothing is there."""
+    def poll(self, request: Request, node: int, file: OpenFile, events: int,
+             poll_handle: Optional[int]) -> int:
+        """Returns those of `events` (bits such as select.POLLIN) that are ready. If none is ready and `poll_handle` is not
+        None, the process waits: keep the number, and call `wake(poll_handle)` of the Connection that `init` got, once, when
+        one becomes ready."""
 
     def tmpfile(self, request: Request, parent: int, mode: int, flags: int) -> Tuple[Entry, Opened]:
-        """Creates and opens a file without a name, for O_TMPFILE."""
+        """Creates and opens a file without a name, for O_TMPFILE. `mode` and the umask are as in `create`."""
 
     def statx(self, request: Request, node: int, flags: int, mask: int, file: Optional[OpenFile]) -> Tuple[Any, float]:
         """Returns a `Statx`, and for how many seconds the kernel may cache it."""

@@ -3,7 +3,10 @@ import contextlib
 import errno
 import fcntl
 import functools
+import logging
 import os
+import select
+import signal
 import stat
 import struct
 import subprocess
@@ -12,8 +15,8 @@ import time
 
 import pytest
 from hello_client import Peer
-from nizwarf import (Attr, DirectoryEntry, Entry, FileSystem, Lock, OpenFile, Opened, Option, Statfs, Statx, ToSet, mount,
-                     serve)
+from nizwarf import (Attr, DirectoryEntry, Entry, FileSystem, Lock, OpenFile, Opened, Option, Request, Statfs, Statx, ToSet,
+                     mount, serve)
 from nizwarf import server as nizwarf_server
 
 ROOT, A = 1, 97
@@ -221,6 +224,42 @@ def test_options_are_negotiated_if_they_are_supported_wanted_and_served(capable,
         assert kernel.negotiated == 0
 
 
+def test_locks_need_flush_which_ends_them():
+    class Endless(Scripted):
+        flush = FileSystem.flush
+
+    file_system = Endless()
+    file_system.want = Option.POSIX_LOCKS
+    with Kernel(file_system, Option.POSIX_LOCKS) as kernel:
+        assert kernel.negotiated == 0
+
+
+def test_wanted_options_are_options():
+    file_system = Scripted()
+    with Kernel(file_system, Option.ASYNC_READ) as kernel:
+        connection = file_system.connection
+        connection.want = Option.ASYNC_READ | Option.OVER_IO_URING
+        connection.want &= ~Option.OVER_IO_URING
+        assert isinstance(connection.want, Option) and isinstance(connection.capable, Option)
+        assert connection.want == Option.ASYNC_READ and kernel.negotiated == Option.ASYNC_READ
+        with pytest.raises(OverflowError):
+            connection.want = 1 << 64
+
+
+@pytest.mark.parametrize("arguments, fields, error", [
+    ((), {"sise": 3}, TypeError), ((), {"mode": -1}, OverflowError), ((), {"nlink": 1 << 40}, OverflowError),
+    ((1 << 64,), {}, OverflowError), ((1, 2), {"size": 2}, TypeError), ((), {"mode": "r"}, TypeError)])
+def test_a_field_that_a_struct_does_not_have_or_cannot_be_is_an_error(arguments, fields, error):
+    with pytest.raises(error):
+        Attr(*arguments, **fields)
+
+
+def test_structs_are_compared_and_shown():
+    assert Attr(1, mtime=-1, mode=3) == Attr(ino=1, mtime=-1, mode=3) != Attr(1)
+    assert repr(Attr(1, mtime=-1, mode=3)) == "Attr(ino=1, mtime=-1, mode=3)" and Attr(mtime=-1) != -1
+    assert len({Request(), Request()}) == 2
+
+
 def test_a_method_that_waits_holds_one_thread_of_several():
     may_end = threading.Event()
 
@@ -233,6 +272,178 @@ def test_a_method_that_waits_holds_one_thread_of_several():
         kernel.ask(11, ROOT, NAME)
         may_end.set()
         kernel.expect(waiting)
+
+
+def test_wake_sends_a_notice_and_its_failure_is_no_error_of_a_request():
+    class Waking(Scripted):
+        def unlink(self, request, parent, name):
+            self.connection.wake(6)
+
+    file_system = Waking()
+    with Kernel(file_system) as kernel:
+        file_system.connection.wake(5)
+        assert kernel.socket.recv(100) == struct.pack("<IiQQ", 24, 1, 0, 5)
+        unique, write = kernel.send(10, ROOT, NAME), file_system.connection._write
+        assert kernel.socket.recv(100) == struct.pack("<IiQQ", 24, 1, 0, 6)
+        kernel.expect(unique)
+        for number, replied in ((errno.ENOENT, 0), (errno.ENODEV, 0), (errno.EINVAL, errno.EIO)):
+            def failing(notice, number=number):
+                raise OSError(number, "not written")
+            file_system.connection._write = failing
+            kernel.ask(10, ROOT, NAME, replied)
+        file_system.connection._write = write
+    file_system.connection.wake(5)  # (the session has ended)
+
+
+class Waiting(Scripted):
+    """A method that waits until the test sets `may_end`, or until the request is interrupted."""
+
+    def __init__(self):
+        super().__init__()
+        self.changed, self.may_end, self.begun = threading.Condition(), False, threading.Event()
+
+    def unlink(self, request, parent, name):
+        with self.changed:
+            self.begun.set()
+            while not self.may_end:
+                request.wait(self.changed)
+
+
+def test_a_method_that_waits_is_interrupted_whenever_the_interrupt_comes():
+    file_system = Waiting()
+    with Kernel(file_system, threads=2) as kernel:
+        waiting = kernel.send(10, ROOT, NAME)
+        assert file_system.begun.wait(PATIENCE)
+        kernel.send(36, 0, struct.pack("<Q", waiting))
+        kernel.expect(waiting, errno.EINTR)
+        # Interrupts that come before their requests are kept.
+        first = next(kernel.numbers) + 65
+        for early in range(first, first + 64):
+            kernel.send(36, 0, struct.pack("<Q", early))
+        for _ in range(2):
+            kernel.ask(10, ROOT, NAME, errno.EINTR)
+
+
+def test_of_early_interrupts_64_are_kept():
+    server = nizwarf_server._Server(FileSystem(), None)
+    for early in range(65):
+        server.interrupt(early)
+    requests = [Request(unique=it) for it in range(65)]
+    assert all(server.begin(it) for it in requests)
+    assert [it.interrupted() for it in requests] == [False] + [True] * 64
+
+
+def test_a_wait_has_a_timeout_and_ends_with_its_condition():
+    request, condition = Request(), threading.Condition()
+    with condition:
+        assert not request.wait(condition, 0.01) and not request.interrupted()
+        threading.Timer(0.1, notify, (condition,)).start()
+        assert request.wait(condition, PATIENCE)
+        request._interrupted = True
+        with pytest.raises(InterruptedError):
+            request.wait(condition)
+
+
+def notify(condition):
+    with condition:
+        condition.notify_all()
+
+
+def test_the_end_of_the_session_interrupts_methods():
+    file_system = Waiting()
+    with Kernel(file_system) as kernel:
+        kernel.send(10, ROOT, NAME)
+        assert file_system.begun.wait(PATIENCE)
+        kernel.socket.close()  # (one thread, which waits: nobody reads the end)
+        with file_system.changed:
+            file_system.may_end = True
+            file_system.changed.notify_all()
+    file_system = Waiting()
+    with Kernel(file_system, threads=2) as kernel:
+        waiting = kernel.send(10, ROOT, NAME)
+        assert file_system.begun.wait(PATIENCE)
+    assert file_system.calls[-2:] == [("interrupt", (waiting,)), ("destroy", ())]
+
+
+def test_an_exception_without_a_reply_is_logged(caplog):
+    file_system = Scripted(interrupt=OSError(errno.EAGAIN, "later"))
+    with Kernel(file_system) as kernel:
+        kernel.send(36, 0, struct.pack("<Q", 99))
+        kernel.ask(10, ROOT, NAME)
+    assert [it.getMessage() for it in caplog.records] == ["interrupt failed"]
+
+
+class NoInit(Scripted):
+    def init(self, connection):
+        raise KeyError("init")
+
+
+def test_a_failing_init_ends_serving_and_is_raised(caplog):
+    peer, raised = Peer(), []
+
+    def serve_it():
+        with pytest.raises(KeyError) as caught:
+            serve(NoInit(), peer.theirs.fileno(), threads=2)
+        raised.append(caught.value)
+
+    with peer.socket, peer.theirs:
+        thread = threading.Thread(target=serve_it)
+        thread.start()
+        peer.ask(26, 0, struct.pack("<IIII", 7, 45, 0, 0) + bytes(48), errno.EIO)
+        thread.join(PATIENCE)
+    assert raised and [it.getMessage() for it in caplog.records] == ["init failed without a valid error number"]
+
+
+def in_child(function):
+    """Calls a function in a process of its own, which ends with status 0 if it returns, and returns the number of that."""
+    child = os.fork()
+    if child == 0:
+        with contextlib.suppress(BaseException):
+            logging.disable()
+            function()
+            os._exit(0)
+        os._exit(1)
+    return child
+
+
+def status_of(child):
+    """Returns the status of a process, which must end."""
+    deadline = time.monotonic() + PATIENCE
+    while time.monotonic() < deadline:
+        ended, status = os.waitpid(child, os.WNOHANG)
+        if ended:
+            return os.waitstatus_to_exitcode(status)
+        time.sleep(0.02)
+    os.kill(child, signal.SIGKILL)
+    os.waitpid(child, 0)
+    raise AssertionError("the process did not end")
+
+
+@pytest.mark.parametrize("number", [signal.SIGINT, signal.SIGTERM])
+@pytest.mark.parametrize("threads", [1, 4])
+def test_a_signal_that_comes_to_another_thread_is_not_lost(threads, number):
+    def serve_it():
+        def raise_signals():
+            while signal.getsignal(number) == signal.SIG_DFL:
+                time.sleep(0.02)
+            time.sleep(0.3)
+            signal.pthread_kill(threading.get_ident(), signal.SIGUSR1)
+            time.sleep(0.3)
+            called.append("not yet")
+            signal.pthread_kill(threading.get_ident(), number)
+
+        called = []
+        former = os.pipe2(os.O_NONBLOCK)[1]
+        signal.set_wakeup_fd(former)
+        signal.signal(signal.SIGUSR1, lambda *_: called.append("other"))
+        handler = signal.signal(number, signal.SIG_DFL)
+        peer = Peer()
+        threading.Thread(target=raise_signals).start()
+        serve(FileSystem(), peer.theirs.fileno(), threads=threads)
+        assert called == ["other", "not yet"] and signal.set_wakeup_fd(-1) == former
+        assert signal.getsignal(number) == signal.SIG_DFL
+
+    assert status_of(in_child(serve_it)) == 0
 
 
 class OneFile(FileSystem):
@@ -261,19 +472,38 @@ class OneFile(FileSystem):
         return len(data)
 
 
-@pytest.mark.skipif(os.geteuid() != 0 or not os.path.exists("/dev/fuse"), reason="requires root and /dev/fuse")
-def test_a_file_on_a_mount_is_read_written_and_truncated(tmp_path):
-    child = os.fork()
-    if child == 0:
-        with contextlib.suppress(BaseException):
-            mount(OneFile(), tmp_path, threads=2)
-            os._exit(0)
-        os._exit(1)
+ROOT_ALONE = pytest.mark.skipif(os.geteuid() != 0 or not os.path.exists("/dev/fuse"), reason="requires root and /dev/fuse")
+
+
+@contextlib.contextmanager
+def mounted(file_system, folder, **options):
+    """Mounts a file system by a process, whose number this returns."""
+    child = in_child(lambda: mount(file_system, folder, **options))
     try:
         deadline = time.monotonic() + PATIENCE
-        while not (tmp_path / "a").exists():
+        while not os.path.ismount(folder):
             assert time.monotonic() < deadline and os.waitpid(child, os.WNOHANG) == (0, 0)
             time.sleep(0.02)
+        yield child
+    finally:
+        subprocess.run(["umount", "-l", folder], stderr=subprocess.DEVNULL, check=False)
+        with contextlib.suppress(ProcessLookupError, ChildProcessError):
+            os.kill(child, signal.SIGKILL)
+            os.waitpid(child, 0)
+
+
+@ROOT_ALONE
+@pytest.mark.parametrize("by_program", [False, True])
+def test_a_file_on_a_mount_is_read_written_and_truncated(tmp_path, monkeypatch, by_program):
+    def refuse(*_):
+        raise PermissionError(errno.EPERM, "not allowed")
+
+    if by_program:
+        if subprocess.run(["which", "fusermount3"], stdout=subprocess.DEVNULL, check=False).returncode:
+            pytest.skip("requires fusermount3")
+        monkeypatch.setattr(nizwarf_server, "_mount_directly", refuse)
+    with mounted(OneFile(), tmp_path, threads=2, name="a,b") as child:
+        assert "a,b" in next(it for it in open("/proc/mounts", encoding="utf-8") if str(tmp_path) in it)
         assert (tmp_path / "a").read_text() == "text"
         (tmp_path / "a").write_bytes(b"more" * 100000)
         assert (tmp_path / "a").read_bytes() == b"more" * 100000
@@ -282,9 +512,85 @@ def test_a_file_on_a_mount_is_read_written_and_truncated(tmp_path):
         with pytest.raises(OSError, match="not implemented"):
             (tmp_path / "d").mkdir()
         subprocess.run(["umount", tmp_path], check=True)
-        assert os.waitpid(child, 0)[1] == 0
-    finally:
-        subprocess.run(["umount", "-l", tmp_path], stderr=subprocess.DEVNULL, check=False)
+        assert status_of(child) == 0
+    with mounted(OneFile(), tmp_path) as child:
+        assert (tmp_path / "a").read_text() == "text"
+        os.kill(child, signal.SIGTERM)
+        assert status_of(child) == 0 and not os.path.ismount(tmp_path)
+
+
+@ROOT_ALONE
+def test_a_signal_unmounts_while_methods_wait(tmp_path):
+    class Slow(OneFile):
+        changed = threading.Condition()
+
+        def read(self, request, node, size, offset, file):
+            with self.changed:
+                while True:
+                    request.wait(self.changed)
+
+    with mounted(Slow(), tmp_path) as child, subprocess.Popen(["cat", tmp_path / "a"], stderr=subprocess.PIPE) as reader:
+        time.sleep(0.5)
+        os.kill(child, signal.SIGTERM)
+        assert status_of(child) == 0 and not os.path.ismount(tmp_path)
+        assert reader.wait(PATIENCE) == 1
+
+
+@ROOT_ALONE
+def test_a_method_that_never_returns_keeps_no_mount(tmp_path):
+    class Endless(OneFile):
+        def read(self, request, node, size, offset, file):
+            threading.Event().wait()
+
+    with mounted(Endless(), tmp_path, threads=2) as child, subprocess.Popen(["cat", tmp_path / "a"], stderr=subprocess.PIPE):
+        time.sleep(0.5)
+        os.kill(child, signal.SIGTERM)
+        deadline = time.monotonic() + PATIENCE
+        while os.path.ismount(tmp_path):
+            assert time.monotonic() < deadline
+            time.sleep(0.02)
+        time.sleep(0.5)
+        assert os.waitpid(child, os.WNOHANG) == (0, 0)
+        os.kill(child, signal.SIGTERM)
+        assert status_of(child) == -signal.SIGTERM and not os.path.ismount(tmp_path)
+
+
+@ROOT_ALONE
+def test_a_failing_init_unmounts_and_is_raised_from_mount(tmp_path):
+    def mount_it():
+        with pytest.raises(KeyError):
+            mount(NoInit(), tmp_path)
+        assert not os.path.ismount(tmp_path)
+
+    assert status_of(in_child(mount_it)) == 0
+
+
+@ROOT_ALONE
+def test_a_file_is_polled_until_it_is_woken(tmp_path):
+    class Polled(OneFile):
+        polled, ready = None, 0
+
+        def init(self, connection):
+            self.connection = connection
+
+        def poll(self, request, node, file, events, poll_handle):
+            self.polled = poll_handle if poll_handle is not None else self.polled
+            return events & self.ready
+
+        def write(self, request, node, data, offset, file):
+            self.ready = select.POLLIN
+            if self.polled is not None:
+                self.connection.wake(self.polled)
+            return len(data)
+
+    with mounted(Polled(), tmp_path), open(tmp_path / "a", "rb") as file:
+        poll = select.poll()
+        poll.register(file, select.POLLIN)
+        assert poll.poll(0) == []
+        writer = threading.Timer(0.3, (tmp_path / "a").write_bytes, (b"new",))
+        writer.start()
+        assert poll.poll(PATIENCE * 1000) == [(file.fileno(), select.POLLIN)]
+        writer.join()
 
 
 def test_a_mount_that_fails_says_where():
