@@ -2,8 +2,9 @@
 """A file system of one file, `hello`.
 
 Usage: hello.py MOUNTPOINT, or hello.py --fd N
-Mounts the file system, which requires root, and serves it until it is unmounted; SIGINT and SIGTERM unmount it too. With
---fd, serves it on the socket with the descriptor N. NIZWARF_LIB is the path of the library if it is not installed.
+Mounts the file system, and serves it until it is unmounted; SIGINT and SIGTERM unmount it too. With --fd, serves it on the
+socket with the descriptor N. Users other than root need the program fusermount3. NIZWARF_LIB is the path of the library if it
+is not installed.
 """
 import errno
 import stat
