@@ -18,7 +18,7 @@ const Root = 1
 
 // Request says for whom a method is called, and what extensions the request has.
 type Request struct {
-	// Unique is the number of the request, which Interrupt gets.
+	// Unique is the number of the request.
 	Unique     uint64
 	UID, GID   uint32
 	PID        int32
@@ -30,6 +30,14 @@ type Request struct {
 	Context     []byte
 	// ExtFlags of a SETXATTR: 1 clears the set-group-ID bit.
 	ExtFlags uint32
+	done     <-chan struct{}
+}
+
+// Done returns a channel that is closed when the process that waits for the reply is interrupted by a signal, and when the
+// session ends: the connection is aborted, as by umount -f, or the context of Mount has ended. A method that waits must
+// watch it, and should then fail with EINTR, because the process and Mount wait for the method.
+func (r *Request) Done() <-chan struct{} {
+	return r.done
 }
 
 // Bits of Request.Has.
@@ -49,11 +57,17 @@ type Attr struct {
 	UID, GID, Rdev, Blksize, Flags               uint32
 }
 
-// Setattr has the attributes that a SETATTR sets: those whose bits, SetMode and others, are among its argument toSet.
+// Setattr has the attributes that a SETATTR sets: those whose bits, SetMode and others, are among the argument toSet. The
+// argument file has Fh and LockOwner, if the kernel sent them. Valid has the bits as the kernel sent them: use toSet and
+// file instead.
 type Setattr struct {
-	Valid, _                                              uint32
-	Fh, Size, LockOwner, Atime, Mtime, Ctime              uint64
-	Atimensec, Mtimensec, Ctimensec, Mode, _, UID, GID, _ uint32
+	Valid                                    uint32
+	_                                        uint32
+	Fh, Size, LockOwner, Atime, Mtime, Ctime uint64
+	Atimensec, Mtimensec, Ctimensec, Mode    uint32
+	_                                        uint32
+	UID, GID                                 uint32
+	_                                        uint32
 }
 
 // Bits of the argument toSet of FileSystem.Setattr.
@@ -111,14 +125,15 @@ const (
 	OpenParallelDirectWrites
 )
 
-// Statfs has the size and the free space of a file system, as statvfs(3).
+// Statfs has the size and the free space of a file system, as statvfs(3). Namemax is only reported: a file system must fail
+// with ENAMETOOLONG itself.
 type Statfs struct {
 	Bsize, Frsize, Blocks, Bfree, Bavail, Files, Ffree, Namemax uint64
 }
 
 // Connection is what the kernel and the file system agree on. Capable are the options that the kernel has, and Want those
 // that are enabled, as WantWritebackCache. FileSystem.Init may change Want and the fields after Device, of which 0 stands
-// for the usual value. Device is the descriptor of /dev/fuse.
+// for the usual value. Bits of Want that are not in Capable are ignored. Device is the descriptor of /dev/fuse.
 //
 // Its methods send notices to the kernel. A file system may keep the connection for that, and call them on any goroutine.
 // An invalidation must not be sent by a method for the same node or name, or under a lock that methods need, because Linux
@@ -149,8 +164,9 @@ const (
 )
 
 // FileSystem is a file system. A type should embed Default, and have the methods that it supports. Methods are called by
-// several goroutines at once, and what they get is lent for the call. Flags and modes are those of the system calls with
-// the method's name.
+// several goroutines at once, and their arguments must not be used after they return; copy what is kept. file is nil if the
+// request names no open file. Flags and modes are those of the system calls with the method's name: they are the numbers of
+// Linux's headers, some of which package syscall lacks, as RENAME_NOREPLACE, XATTR_CREATE and POLLIN.
 type FileSystem interface {
 	// Init begins the session.
 	Init(connection *Connection) error
@@ -158,10 +174,10 @@ type FileSystem interface {
 	Destroy()
 	// Lookup returns the entry of a name in a directory.
 	Lookup(r *Request, parent uint64, name string) (Entry, error)
-	// Forget drops so many lookups of a node, which entries have counted.
+	// Forget takes count from the number of lookups of a node, which entries have counted. At 0, and with no name left, its
+	// number may be reused with another Generation.
 	Forget(r *Request, node, count uint64)
-	// Getattr returns the attributes of a node, and how long the kernel may cache them. A node that is not open has no
-	// file.
+	// Getattr returns the attributes of a node, and how long the kernel may cache them.
 	Getattr(r *Request, node uint64, file *File) (Attr, time.Duration, error)
 	// Setattr sets attributes, and returns all as Getattr does.
 	Setattr(r *Request, node uint64, attr *Setattr, toSet uint32, file *File) (Attr, time.Duration, error)
@@ -184,9 +200,11 @@ type FileSystem interface {
 	Read(r *Request, node uint64, data []byte, offset uint64, file *File) (int, error)
 	// Write returns how many bytes were written.
 	Write(r *Request, node uint64, data []byte, offset uint64, file *File) (int, error)
-	// Flush is called as a process closes one of its descriptors. The locks of file.LockOwner end.
+	// Flush is called as a process closes one of its descriptors. The method must remove the fcntl(2) locks of
+	// file.LockOwner.
 	Flush(r *Request, node uint64, file *File) error
-	// Release is called as the last descriptor is closed, or if the kernel did not get the handle.
+	// Release is called as the last descriptor is closed, or if the kernel did not get the handle. If HasReleaseFlockUnlock
+	// is among r.Has, it must remove the flock(2) lock of file.LockOwner.
 	Release(r *Request, node uint64, file *File) error
 	Fsync(r *Request, node uint64, datasync bool, file *File) error
 	Opendir(r *Request, node uint64, flags uint32) (Opened, error)
@@ -213,9 +231,11 @@ type FileSystem interface {
 	Tmpfile(r *Request, parent uint64, mode, flags uint32) (Entry, Opened, error)
 	// Getlk returns a lock of fcntl(2) that conflicts with this one of file.LockOwner, or one of type F_UNLCK.
 	Getlk(r *Request, node uint64, file *File, lock Lock) (Lock, error)
-	// Setlk sets or removes a lock of fcntl(2). With sleep it waits until it has the lock.
+	// Setlk sets or removes a lock of fcntl(2) of file.LockOwner. With sleep it waits until it has the lock, or until
+	// r.Done() is closed.
 	Setlk(r *Request, node uint64, file *File, lock Lock, sleep bool) error
-	// Flock does an operation of flock(2): LOCK_SH, LOCK_EX or LOCK_UN, with LOCK_NB if it must not wait.
+	// Flock does an operation of flock(2): LOCK_SH, LOCK_EX or LOCK_UN, with LOCK_NB if it must not wait. The owner of the
+	// lock is file.LockOwner. Waiting is as for Setlk.
 	Flock(r *Request, node uint64, file *File, operation int) error
 	// Bmap returns the block of the device for a block of a file, on a mount of a block device.
 	Bmap(r *Request, node uint64, blockSize uint32, block uint64) (uint64, error)
@@ -225,16 +245,16 @@ type FileSystem interface {
 	Ioctl(r *Request, node uint64, command uint32, argument uint64, file *File, flags uint32, input []byte,
 		size uint32) (int32, []byte, error)
 	// Poll returns which events of poll(2) have occurred. If notify is true, Connection.Wake must be called with the
-	// handle as soon as another one occurs.
+	// handle as soon as an event occurs that was not returned. The handle is the same for all polls of one open file, and
+	// valid until Release. Wake may be called more often than needed, and by a method too.
 	Poll(r *Request, node uint64, file *File, events uint32, handle uint64, notify bool) (uint32, error)
 	// Statx returns at least the attributes in mask, and how long the kernel may cache them. Linux calls it if these are
 	// more than Getattr returns, as the time of birth.
 	Statx(r *Request, node uint64, flags, mask uint32, file *File) (Statx, time.Duration, error)
-	// Interrupt is called when a process no longer waits for the request of this number, which may fail with EINTR.
-	Interrupt(unique uint64)
 }
 
-// Lock is a lock of the bytes from Start to End. Type is F_RDLCK, F_WRLCK or F_UNLCK, PID the process that has it.
+// Lock is a lock of the bytes from Start to End, which is included; End is 1<<63-1 for a lock to the end of the file. Type
+// is F_RDLCK, F_WRLCK or F_UNLCK, PID the process that has it.
 type Lock struct {
 	Start, End uint64
 	Type, PID  uint32
@@ -263,8 +283,8 @@ type StatxTime struct {
 	_    int32
 }
 
-// Default has all methods of FileSystem, for types that embed it. Init, Destroy, Forget, Interrupt, Open,
-// Release, Opendir and Releasedir succeed, Statfs returns that names have at most 255 bytes, and all others fail with ENOSYS.
+// Default has all methods of FileSystem, for types that embed it. Init, Destroy, Forget, Open, Release, Opendir and
+// Releasedir succeed, Statfs returns that names have at most 255 bytes, and all others fail with ENOSYS.
 type Default struct{}
 
 const missing = syscall.ENOSYS
@@ -332,4 +352,3 @@ func (Default) Poll(*Request, uint64, *File, uint32, uint64, bool) (uint32, erro
 func (Default) Statx(*Request, uint64, uint32, uint32, *File) (Statx, time.Duration, error) {
 	return Statx{}, 0, missing
 }
-func (Default) Interrupt(uint64) {}

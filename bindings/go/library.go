@@ -16,8 +16,10 @@ import (
 	"fmt"
 	"io"
 	"log"
+	"runtime"
 	"runtime/debug"
 	"strings"
+	"sync"
 	"syscall"
 	"time"
 	"unsafe"
@@ -25,10 +27,11 @@ import (
 
 const (
 	payload, headerSize = 1 << 20, 16
-	// The size of the buffers of a request and of a reply.
-	bufferSize = payload + 4096
-	interrupt  = 36 // an opcode that calls no method
-	initExt    = 1 << 30
+	// The sizes of the buffers of a request and of a reply: of any one, and of one without data.
+	bufferSize, smallSize = payload + 4096, 8192
+	// Opcodes that C has no names for: the first one calls no method, the other one is a NIZWARF_READDIR.
+	interrupt, readdirplus = 36, 44
+	initExt                = 1 << 30
 	// The optional operations that FileSystem has, and the option of INIT, HAS_INODE_DAX, that needs another one.
 	features = C.NIZWARF_FEATURE_LOCKS | C.NIZWARF_FEATURE_BMAP | C.NIZWARF_FEATURE_IOCTL | C.NIZWARF_FEATURE_POLL |
 		C.NIZWARF_FEATURE_STATX | C.NIZWARF_FEATURE_COPY_64 | C.NIZWARF_FEATURE_TMPFILE | C.NIZWARF_FEATURE_INIT
@@ -43,18 +46,47 @@ var layouts = [][2]any{
 	{Lock{}, C.nizwarf_lock{}}, {Statx{}, C.nizwarf_statx{}}, {StatxTime{}, C.nizwarf_sx_time{}},
 }
 
-// worker serves one request at a time. C allocates the memory that it reads through pointers: the buffers of the request
-// and of the reply.
+// buffer is memory that C allocates, because C reads it through pointers.
+type buffer struct {
+	at   unsafe.Pointer
+	size int
+}
+
+func newBuffer(size int) *buffer {
+	return &buffer{C.malloc(C.size_t(size)), size}
+}
+
+func (b *buffer) bytes() []byte {
+	return unsafe.Slice((*byte)(b.at), b.size)
+}
+
+func (b *buffer) free() {
+	C.free(b.at)
+}
+
+// large has the buffers for requests and replies with data, which no goroutine keeps between requests.
+var large = sync.Pool{New: func() any {
+	b := newBuffer(bufferSize)
+	runtime.SetFinalizer(b, (*buffer).free)
+	return b
+}}
+
+// worker serves one request at a time.
 type worker struct {
 	*server
-	request, buffer unsafe.Pointer
-	scratch         C.nizwarf_scratch
-	session         C.nizwarf_session
-	call            C.nizwarf_call
-	result          C.nizwarf_result
-	answer          C.nizwarf_answer
-	entries         []C.nizwarf_dirent
-	opened          bool
+	// The buffers of this request and of its reply, and those for a small request and a small reply.
+	request, reply           *buffer
+	smallRequest, smallReply *buffer
+	// The size of the request.
+	requestSize int
+	done        <-chan struct{}
+	scratch     C.nizwarf_scratch
+	session     C.nizwarf_session
+	call        C.nizwarf_call
+	result      C.nizwarf_result
+	answer      C.nizwarf_answer
+	entries     []C.nizwarf_dirent
+	opened      bool
 	// The fields of the call. openFile is nil if the request names no open file.
 	who                        *Request
 	node, offset, size, length uint64
@@ -68,34 +100,77 @@ type worker struct {
 }
 
 func newWorker(s *server) *worker {
-	return &worker{server: s, request: C.malloc(bufferSize), buffer: C.malloc(bufferSize)}
+	w := &worker{server: s, smallRequest: newBuffer(smallSize), smallReply: newBuffer(smallSize)}
+	w.request, w.reply = w.smallRequest, w.smallReply
+	return w
 }
 
 func (w *worker) free() {
 	C.nizwarf_scratch_free(&w.scratch)
-	C.free(w.request)
-	C.free(w.buffer)
+	w.release()
+	w.smallRequest.free()
+	w.smallReply.free()
 }
 
-// requestBuffer is where a request is read to.
-func (w *worker) requestBuffer() []byte {
-	return unsafe.Slice((*byte)(w.request), bufferSize)
+// take takes the next request, which is in a large buffer. It keeps this buffer only for a large request, because a method
+// may wait.
+func (w *worker) take(from *buffer, size int) {
+	w.request, w.requestSize = from, size
+	if size <= smallSize {
+		copy(w.smallRequest.bytes(), from.bytes()[:size])
+		w.request = w.smallRequest
+		large.Put(from)
+	}
+	if hasLargeReply(w.word(4)) {
+		w.reply = large.Get().(*buffer)
+	}
+}
+
+// release returns the large buffers.
+func (w *worker) release() {
+	if w.request != w.smallRequest {
+		large.Put(w.request)
+	}
+	if w.reply != w.smallReply {
+		large.Put(w.reply)
+	}
+	w.request, w.reply = w.smallRequest, w.smallReply
+}
+
+// hasLargeReply returns whether the reply to an opcode has data of the file system.
+func hasLargeReply(opcode uint32) bool {
+	switch opcode {
+	case C.NIZWARF_READ, C.NIZWARF_READDIR, readdirplus, C.NIZWARF_GETXATTR, C.NIZWARF_LISTXATTR, C.NIZWARF_IOCTL:
+		return true
+	}
+	return false
+}
+
+// word returns a number of 32 bits in the request, or 0 if it is shorter.
+func (w *worker) word(at int) uint32 {
+	if at+4 > w.requestSize {
+		return 0
+	}
+	return binary.LittleEndian.Uint32(w.request.bytes()[at:])
+}
+
+// unique returns the number of the request.
+func (w *worker) unique() uint64 {
+	return uint64(w.word(12))<<32 | uint64(w.word(8))
 }
 
 // body is what follows the header of a reply.
 func (w *worker) body() []byte {
-	return unsafe.Slice((*byte)(unsafe.Add(w.buffer, headerSize)), w.replySize-headerSize)
+	return w.reply.bytes()[headerSize:]
 }
 
-// serve serves the request of this size, and returns the reply, which may be empty.
-func (w *worker) serve(size int) []byte {
+// serve serves the request, and returns the reply, which may be empty.
+func (w *worker) serve() []byte {
 	w.session = C.nizwarf_session{options: C.uint64_t(w.options.Load()), page_size: 4096, max_buffer: payload}
-	request := C.struct_iovec{w.request, C.size_t(size)}
-	reply := C.struct_iovec{w.buffer, C.size_t(w.replySize)}
+	request := C.struct_iovec{w.request.at, C.size_t(w.requestSize)}
+	reply := C.struct_iovec{w.reply.at, C.size_t(w.reply.size)}
 	code := C.nizwarf_decode(&w.scratch, &w.session, features, &request, 1, &reply, 1, &w.call, &w.result)
-	if w.result.interrupts != 0 {
-		w.quietly(func() error { w.fs.Interrupt(uint64(w.result.interrupts)); return nil })
-	}
+	w.interrupt(uint64(w.result.interrupts))
 	if code == C.NIZWARF_CALL {
 		w.answer, w.entries, w.opened = C.nizwarf_answer{}, nil, false
 		w.describe()
@@ -103,9 +178,9 @@ func (w *worker) serve(size int) []byte {
 		code = w.encode(&reply)
 	}
 	if code != C.NIZWARF_OK {
-		return w.reject(size, int32(code))
+		return w.reject(int32(code))
 	}
-	return unsafe.Slice((*byte)(w.buffer), w.result.len)
+	return w.reply.bytes()[:w.result.len]
 }
 
 // encode encodes the reply. What the kernel does not get is released and forgotten.
@@ -146,12 +221,11 @@ func (w *worker) encode(reply *C.struct_iovec) C.int32_t {
 
 // reject returns an error for a request that was rejected, or for which there is no memory, because the kernel waits for
 // a reply.
-func (w *worker) reject(size int, code int32) []byte {
-	if size < headerSize {
+func (w *worker) reject(code int32) []byte {
+	if w.requestSize < headerSize {
 		return nil
 	}
-	request := w.requestBuffer()[:size]
-	opcode, unique := binary.LittleEndian.Uint32(request[4:]), binary.LittleEndian.Uint64(request[8:])
+	opcode, unique := w.word(4), w.unique()
 	log.Printf("nizwarf: rejected request %d with opcode %d: libnizwarf returned %d", unique, opcode, code)
 	switch opcode {
 	case C.NIZWARF_FORGET, C.NIZWARF_BATCH_FORGET, C.NIZWARF_NOTIFY_REPLY, interrupt: // no reply is expected
@@ -175,7 +249,7 @@ func (w *worker) number(err error) syscall.Errno {
 
 // part returns the bytes of a range of the request.
 func (w *worker) part(it C.nizwarf_range) []byte {
-	return unsafe.Slice((*byte)(unsafe.Add(w.request, it.at)), it.len)
+	return unsafe.Slice((*byte)(unsafe.Add(w.request.at, it.at)), it.len)
 }
 
 // describe fills in the fields of the call.
@@ -183,7 +257,7 @@ func (w *worker) describe() {
 	c := &w.call
 	w.who = &Request{Unique: uint64(c.unique), UID: uint32(c.uid), GID: uint32(c.gid), PID: int32(c.pid),
 		Umask: uint32(c.umask), Has: uint32(c.has), Group: uint32(c.group), ContextName: string(w.part(c.context_name)),
-		Context: w.part(c.context), ExtFlags: uint32(c.more)}
+		Context: w.part(c.context), ExtFlags: uint32(c.more), done: w.done}
 	w.node, w.offset, w.size, w.length = uint64(c.node), uint64(c.offset), uint64(c.size), uint64(c.length)
 	w.otherNode, w.datasync = uint64(c.other_node), c.has&C.NIZWARF_FSYNC_FDATASYNC != 0
 	w.name, w.otherName, w.data = string(w.part(c.name)), string(w.part(c.other_name)), w.part(c.data)
@@ -258,7 +332,7 @@ func (w *worker) text(it []byte, err error) error {
 	if err == nil && len(it) > len(w.body()) {
 		return syscall.ERANGE
 	}
-	w.answer.text = (*C.uint8_t)(unsafe.Add(w.buffer, headerSize))
+	w.answer.text = (*C.uint8_t)(unsafe.Add(w.reply.at, headerSize))
 	w.answer.text_len = C.size_t(copy(w.body(), it))
 	return err
 }

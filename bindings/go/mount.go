@@ -20,8 +20,10 @@ type MountOptions struct {
 	NoDefaultPermissions bool
 }
 
-// Mount mounts a file system, and serves it until it is unmounted. The end of the context unmounts it: at once, or, if
-// somebody still uses it, with its last user. Without the permission for mount(2) it requires the program fusermount3.
+// Mount mounts a file system, and serves it until it is unmounted. The end of the context closes Request.Done of all requests,
+// and unmounts the file system lazily: Mount returns once the last open file, working directory and copy in another mount
+// namespace is gone. So a program should let a second signal end it. Without the permission for mount(2) Mount requires the
+// program fusermount3.
 func Mount(ctx context.Context, fs FileSystem, mountpoint string, options MountOptions) error {
 	if options.Name == "" {
 		options.Name = "nizwarf"
@@ -36,14 +38,15 @@ func Mount(ctx context.Context, fs FileSystem, mountpoint string, options MountO
 		return err
 	}
 	defer syscall.Close(device)
-	served := make(chan error, 1)
-	go func() { served <- Serve(fs, device) }()
+	s, served := newServer(fs, device), make(chan error, 1)
+	go func() { served <- s.serve() }()
 	select {
 	case err = <-served:
 		if err == nil { // it was unmounted
 			return nil
 		}
 	case <-ctx.Done():
+		s.stop()
 	}
 	if failure := unmount(mountpoint); failure != nil {
 		return &os.PathError{Op: "unmount", Path: mountpoint, Err: failure}

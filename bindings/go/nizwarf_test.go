@@ -251,8 +251,7 @@ type panics struct {
 	forgot chan uint64
 }
 
-func (p *panics) Interrupt(uint64) { panic("interrupt") }
-func (p *panics) Destroy()         { panic("destroy") }
+func (p *panics) Destroy() { panic("destroy") }
 func (p *panics) Forget(r *Request, node, count uint64) {
 	if node == 5 {
 		panic("forget")
@@ -267,16 +266,16 @@ func (p *panics) Create(*Request, uint64, string, uint32, uint32) (Entry, Opened
 func TestAPanicOfAMethodWithoutAReplyEndsNothing(t *testing.T) {
 	p := &panics{forgot: make(chan uint64, 1)}
 	k := begin(t, p, 0)
-	k.send(36, 0, pack(uint64(1)))                                                        // INTERRUPT
 	k.send(42, 0, pack(uint32(2), uint32(0), uint64(5), uint64(1), uint64(6), uint64(1))) // BATCH_FORGET
 	k.send(2, 5, pack(uint64(1)))                                                         // FORGET
 	k.call(17, Root, nil, 0)
-	w := newWorker(&server{fs: p, replySize: 20})
+	w := newWorker(newServer(p, -1))
 	defer w.free()
+	w.smallReply.size = 20
 	request := pack(uint32(58), uint32(35), uint64(5), uint64(Root), uint64(0), uint32(3), uint32(0), uint64(0), uint64(0), "b\x00")
-	copy(w.requestBuffer(), request)
+	w.requestSize = copy(w.request.bytes(), request)
 	// (the reply does not fit: the file is released and its node forgotten)
-	if reply := w.serve(len(request)); !bytes.Equal(reply, fault(5, syscall.EIO)) {
+	if reply := w.serve(); !bytes.Equal(reply, fault(5, syscall.EIO)) {
 		t.Errorf("reply % x", reply)
 	}
 	if node := <-p.forgot; node != 6 {
@@ -286,13 +285,14 @@ func TestAPanicOfAMethodWithoutAReplyEndsNothing(t *testing.T) {
 
 func TestWhatTheKernelDoesNotGetIsReleasedAndForgotten(t *testing.T) {
 	m := newMemory()
-	w := newWorker(&server{fs: m, replySize: 20})
+	w := newWorker(newServer(m, -1))
 	defer w.free()
+	w.smallReply.size = 20
 	log.SetOutput(io.Discard)
 	// A CREATE, whose reply does not fit.
 	request := pack(uint32(58), uint32(35), uint64(5), uint64(Root), uint64(0), uint32(3), uint32(0), uint64(0), uint64(0), "b\x00")
-	copy(w.requestBuffer(), request)
-	if reply := w.serve(len(request)); !bytes.Equal(reply, fault(5, syscall.EIO)) {
+	w.requestSize = copy(w.request.bytes(), request)
+	if reply := w.serve(); !bytes.Equal(reply, fault(5, syscall.EIO)) {
 		t.Errorf("reply % x", reply)
 	}
 	if fmt.Sprint(m.released, m.forgot) != "[7] map[98:1]" {
@@ -538,5 +538,77 @@ func TestAMountThatFailsSaysWhere(t *testing.T) {
 	err := Mount(context.Background(), Default{}, "/none", MountOptions{})
 	if !errors.Is(err, syscall.ENOENT) || !strings.Contains(err.Error(), "/none") {
 		t.Error(err)
+	}
+}
+
+// waiter has locks that nobody gets: Setlk waits until Done is closed.
+type waiter struct {
+	pipe
+	waits chan struct{}
+}
+
+func (w *waiter) Init(c *Connection) error {
+	c.Want |= WantPosixLocks
+	return nil
+}
+
+func (w *waiter) Setlk(r *Request, node uint64, file *File, lock Lock, sleep bool) error {
+	if lock.Type == syscall.F_UNLCK {
+		return nil
+	}
+	select {
+	case w.waits <- struct{}{}:
+	default:
+	}
+	<-r.Done()
+	return syscall.EINTR
+}
+
+func TestAnInterruptAtOnceEndsARequestThatWaits(t *testing.T) {
+	w := &waiter{}
+	k := begin(t, w, WantPosixLocks)
+	lock := pack(uint64(1), uint64(9), uint64(5), uint64(6), uint32(syscall.F_RDLCK), uint32(4), uint64(0))
+	for i := 0; i < 2000; i++ {
+		k.send(33, 'a', lock)
+		waits := k.unique
+		k.send(36, 0, pack(waits))
+		k.send(36, 0, pack(waits)) // late, or a second one
+		reply := make([]byte, 100)
+		if size, err := syscall.Read(k.device, reply); err != nil || !bytes.Equal(reply[:size], fault(waits, syscall.EINTR)) {
+			t.Fatalf("reply % x, %v", reply[:size], err)
+		}
+	}
+}
+
+func TestTheEndOfASessionEndsRequestsThatWait(t *testing.T) {
+	ends, err := syscall.Socketpair(syscall.AF_UNIX, syscall.SOCK_SEQPACKET|syscall.SOCK_CLOEXEC, 0)
+	if err != nil {
+		t.Fatal(err)
+	}
+	defer syscall.Close(ends[1])
+	w, served := &waiter{waits: make(chan struct{}, 1)}, make(chan error, 1)
+	go func() { served <- Serve(w, ends[1]) }()
+	k := &kernel{T: t, device: ends[0]}
+	k.init(WantPosixLocks)
+	k.send(33, 'a', pack(uint64(1), uint64(9), uint64(5), uint64(6), uint32(0), uint32(4), uint64(0)))
+	<-w.waits
+	syscall.Close(ends[0])
+	select {
+	case err := <-served:
+		if err != nil {
+			t.Error(err)
+		}
+	case <-time.After(20 * time.Second):
+		t.Fatal("Serve did not return")
+	}
+}
+
+func TestARequestWithoutDataKeepsNoLargeBuffer(t *testing.T) {
+	w := newWorker(newServer(Default{}, -1))
+	defer w.free()
+	from := large.Get().(*buffer)
+	w.take(from, copy(from.bytes(), pack(uint32(40), uint32(33), uint64(2), [24]byte{})))
+	if w.request.size != smallSize || w.reply.size != smallSize || w.unique() != 2 {
+		t.Error(w.request.size, w.reply.size, w.unique())
 	}
 }
