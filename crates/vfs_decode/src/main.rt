@@ -58,9 +58,7 @@ fn greet_terminal(rt: &impl Eprint, input: &impl IsTerminal) -> io::Result<()> {
     if !input.is_terminal() {
         return Ok(());
     }
-    eprintln!(rt;
-        "vfs_decode: reading lines from standard input until end of file (see --help)"
-    )
+    eprintln!(rt; "vfs_decode: reading lines from standard input until end of file (see --help)")
 }
 
 /// Prints what is wrong with a bad line, and which lines there are if it is one of the first two; or

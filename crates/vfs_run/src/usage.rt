@@ -56,9 +56,7 @@ pub fn greet_terminal(
         return Ok(());
     }
     let name = program.name;
-    eprintln!(rt;
-        "{name}: reading requests from standard input until end of file (see --help)"
-    )
+    eprintln!(rt; "{name}: reading requests from standard input until end of file (see --help)")
 }
 
 /// Prints what the answers to the lines of `text` don't say: on standard error what is wrong with a
