@@ -61,13 +61,15 @@ enum { NIZWARF_MAX_PAYLOAD = 1 << 20, NIZWARF_MAX_SPLICE = 1 << 19, NIZWARF_MAX_
  * must be valid until nizwarf_fuse_serve() has returned and no thread uses it. Its fields must not be used. */
 typedef struct {
 	pthread_mutex_t lock;
+	pthread_cond_t idle;
 	int device;
+	unsigned senders;
 } nizwarf_fuse_notices;
 
 /* The initial value of a nizwarf_fuse_notices. */
-#define NIZWARF_FUSE_NOTICES_INIT             \
-	{                                     \
-		PTHREAD_MUTEX_INITIALIZER, -1 \
+#define NIZWARF_FUSE_NOTICES_INIT                                          \
+	{                                                                  \
+		PTHREAD_MUTEX_INITIALIZER, PTHREAD_COND_INITIALIZER, -1, 0 \
 	}
 
 /* How a file system is served. The fields `size`, `program`, `workers` and `serve` must be set; the others may be 0,

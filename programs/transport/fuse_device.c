@@ -627,31 +627,46 @@ static int ask(struct worker *w, const struct fuse_in_header *asked, const struc
 	return later_keeps(&source, *code);
 }
 
-/* Notices can be sent from now on, or no longer: to no device. -1: one is being sent that waits for something. */
+/* Lets notices be sent to `device` from now on, or to none if it is -1. Returns -1 if after a second a notice is still
+ * being sent, because the kernel waits for a request while it handles it. */
 static int let_notify(const nizwarf_transport *by, int device)
 {
+	nizwarf_fuse_notices *const notices = by->notices;
 	struct timespec until;
+	int error = 0;
 
-	if (!by->notices)
+	if (!notices)
 		return 0;
 	clock_gettime(CLOCK_REALTIME, &until);
 	until.tv_sec++;
-	if (pthread_mutex_timedlock(&by->notices->lock, &until))
-		return -1;
-	by->notices->device = device;
-	pthread_mutex_unlock(&by->notices->lock);
-	return 0;
+	pthread_mutex_lock(&notices->lock);
+	notices->device = device;
+	while (device < 0 && notices->senders && !error)
+		error = pthread_cond_timedwait(&notices->idle, &notices->lock, &until);
+	pthread_mutex_unlock(&notices->lock);
+	return error ? -1 : 0;
 }
 
+/* The lock is not held during writev(2), so that no notice waits for another. Otherwise a worker could wait with its
+ * notice for one that waits in the kernel for a request, which only this worker would serve: for ever, because that
+ * wait cannot be killed. `senders` keeps the device open meanwhile. */
 int nizwarf_fuse_notify(nizwarf_fuse_notices *notices, const void *notice, size_t len, const void *data,
 			size_t data_len)
 {
 	struct iovec pieces[] = { { (void *)(uintptr_t)notice, len }, { (void *)(uintptr_t)data, data_len } };
-	int error = ENOTCONN;
+	int device, error;
 
 	pthread_mutex_lock(&notices->lock);
-	if (notices->device >= 0)
-		error = writev(notices->device, pieces, data_len ? 2 : 1) < 0 ? errno : 0;
+	device = notices->device;
+	if (device >= 0)
+		notices->senders++;
+	pthread_mutex_unlock(&notices->lock);
+	if (device < 0)
+		return ENOTCONN;
+	error = writev(device, pieces, data_len ? 2 : 1) < 0 ? errno : 0;
+	pthread_mutex_lock(&notices->lock);
+	if (!--notices->senders)
+		pthread_cond_broadcast(&notices->idle);
 	pthread_mutex_unlock(&notices->lock);
 	return error == ENODEV ? ENOTCONN : error;
 }

@@ -5,15 +5,18 @@ import pathlib
 import shutil
 import signal
 import subprocess
+import threading
 import time
 
 import pytest
+from building import find_fuse
 from conftest import REPORT, wait_until
 from examples import GETATTR, GETATTR_RECORD, INIT, INIT_RECORD, ROOT, Client, Example
 from requirements import require, setting
 
 NOBODY, TEXT = 65534, "Hello, world!\n"
 DEVICE = os.makedev(10, 229)
+CONNECTIONS = pathlib.Path("/sys/fs/fuse/connections")
 
 
 @pytest.fixture(scope="module")
@@ -104,8 +107,8 @@ class Mount:
         self.path, self.user = path, {"user": user, "group": user, "extra_groups": []} if user else {}
         path.mkdir(exist_ok=True)
         os.chown(path, user, user)
-        self.process = subprocess.Popen([program, *options, path], stdin=subprocess.DEVNULL, stderr=subprocess.PIPE, text=True,
-                                        **self.user, **more)
+        self.process = subprocess.Popen([program, *options, path], stderr=subprocess.PIPE, text=True,
+                                        **{"stdin": subprocess.DEVNULL, **self.user, **more})
 
     def entry(self):
         """Source, type and options of the mount, or None."""
@@ -315,3 +318,58 @@ def test_a_mount_that_cannot_be_unmounted_is_reported_and_a_failure(mount_hello,
     status, printed = mount.end(signal.SIGTERM)
     assert status == 1
     assert f"hello: {mount.path}: fusermount3 failed" in printed.splitlines()
+
+
+# ---- notices
+
+@pytest.fixture
+def notices(built, scratch):
+    """The mount of notices.c. `connection` is its folder in /sys; a connection that hangs is aborted at the end, or after
+    100 seconds, because no signal ends a process that waits in Linux."""
+    require("fuse")
+    mount = Mount(built.compile("tests/programs/notices.c", *find_fuse(), "-pthread"), scratch / "mount",
+                  stdin=subprocess.PIPE, stdout=subprocess.PIPE).serve()
+    if not os.path.ismount(CONNECTIONS):
+        subprocess.run(["mount", "-t", "fusectl", "none", CONNECTIONS], check=True)
+    mount.connection = CONNECTIONS / str(os.minor(os.stat(mount.path).st_dev))
+
+    def abort():
+        if mount.process.poll() is None:
+            (mount.connection / "abort").write_text("1")
+            mount.process.kill()
+
+    limit = threading.Timer(100, abort)
+    limit.start()
+    yield mount
+    limit.cancel()
+    abort()
+    mount.process.communicate(timeout=30)
+    subprocess.run(["umount", "-l", mount.path], stderr=subprocess.DEVNULL)
+
+
+def states(pid):
+    """The states of a process's threads, as in proc(5)."""
+    return [setting(it / "stat").rpartition(")")[2].split()[:1] for it in pathlib.Path(f"/proc/{pid}/task").iterdir()]
+
+
+def send_byte(process):
+    process.stdin.write(".")
+    process.stdin.flush()
+
+
+def test_a_notice_does_not_wait_for_another_that_waits_for_a_request(notices):
+    server, n, m = notices.process, os.open(notices.path / "N", os.O_RDONLY), os.open(notices.path / "M", os.O_WRONLY)
+    with subprocess.Popen(["echo"], stdout=m) as writer:
+        server.stdout.readline()
+        with subprocess.Popen(["cat"], stdin=n, stderr=subprocess.DEVNULL) as reader:
+            try:
+                assert wait_until(lambda: setting(notices.connection / "waiting") == "2")
+                send_byte(server)
+                assert wait_until(lambda: ["D"] in states(server.pid))
+                send_byte(server)
+                assert [it.wait(10) for it in (writer, reader)] == [0, 1]
+            except BaseException:
+                (notices.connection / "abort").write_text("1")
+                raise
+    os.close(n), os.close(m)
+    assert notices.end(signal.SIGTERM) == (0, "")
