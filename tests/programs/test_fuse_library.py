@@ -95,7 +95,7 @@ def test_a_descriptor_that_is_no_device_is_a_failure(hello):
     ended = subprocess.run([hello, "--fd", "0"], stdin=ours, capture_output=True, text=True, timeout=20)
     os.close(ours), os.close(theirs)
     assert ended.returncode == 1
-    assert ended.stderr.startswith("hello: read: ")
+    assert ended.stderr.startswith("hello: cannot read from /dev/fuse: ")
 
 
 # ---- mounts
