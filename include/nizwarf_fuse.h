@@ -146,7 +146,8 @@ typedef struct nizwarf_request nizwarf_request;
  * functions return, and serves until the file system is unmounted or a signal comes. It calls `destroy` of
  * the table last. `user` is passed to the functions of the table. If the table has no bad_error, the first number that
  * is not an error number is reported on standard error. Functions must not return NIZWARF_LATER here,
- * because the session is the library's: use nizwarf_fuse_serve() for that.
+ * because the session is the library's: use nizwarf_fuse_serve() for that. The first one is reported on
+ * standard error, and EIO is replied.
  *
  * Returns the exit status: 0 on success, 1 on failure, 2 if the arguments are invalid. */
 int nizwarf_fuse_main(int argc, char **argv, const nizwarf_ops *ops, void *user);

@@ -160,9 +160,16 @@ size_t fuse_device_refuse(const nizwarf_transport *by, const struct fuse_in_head
 			  void *room)
 {
 	struct fuse_out_header reply = { .len = sizeof(reply), .unique = asked->unique };
+	static atomic_flag reported = ATOMIC_FLAG_INIT;
 
-	transport_say(by->program, "request with opcode %u failed: code %d of nizwarf.h",
-		      (unsigned)asked->opcode, (int)code);
+	/* (each request may do so, because it is an error of the program: one line suffices) */
+	if (code != NIZWARF_CALL)
+		transport_say(by->program, "request with opcode %u failed: code %d of nizwarf.h",
+			      (unsigned)asked->opcode, (int)code);
+	else if (!atomic_flag_test_and_set(&reported))
+		transport_say(by->program,
+			      "opcode %u returned NIZWARF_LATER, but kept no request: replying EIO",
+			      (unsigned)asked->opcode);
 	if (asked->opcode == FUSE_FORGET || asked->opcode == FUSE_BATCH_FORGET ||
 	    asked->opcode == FUSE_INTERRUPT || asked->opcode == FUSE_NOTIFY_REPLY)
 		return 0;

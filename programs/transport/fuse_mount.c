@@ -25,6 +25,16 @@ static int say(const nizwarf_transport *by, const char *action, const char *path
 	return -1;
 }
 
+/* Says the same of a mount. If an argument is invalid, that may be an option. */
+static int say_mount(const nizwarf_transport *by, const char *path, const char *options)
+{
+	if (errno != EINVAL || !options || !*options)
+		return say(by, "mount on", path);
+	transport_say(by->program, "cannot mount on '%s' with options '%s': %s", path, options,
+		      strerror(errno));
+	return -1;
+}
+
 /* Where the mount was made: the directory above, wherever that is now, the name there, and the numbers that
  * mounts have there and above; 0: unknown. The directory is open until the process ends. It is -1 before,
  * and where it can't be had, as without /proc. `by_helper`: by fusermount3. */
@@ -204,7 +214,7 @@ int nizwarf_fuse_mount_on(const nizwarf_transport *by, int device, const char *s
 		return -1;
 	prepare(folder);
 	if (mount_device(by, device, source, folder, flags, options))
-		return say(by, "mount on", folder);
+		return say_mount(by, folder, options);
 	note(0);
 	return 0;
 }
@@ -232,5 +242,5 @@ int nizwarf_fuse_mount(const nizwarf_transport *by, const char *source, const ch
 		return device;
 	}
 	errno = error;
-	return device < 0 ? say(by, "open", "/dev/fuse") : say(by, "mount on", folder);
+	return device < 0 ? say(by, "open", "/dev/fuse") : say_mount(by, folder, options);
 }

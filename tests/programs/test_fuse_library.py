@@ -1,5 +1,6 @@
 """libnizwarf-fuse, as hello.c uses it: the command line of nizwarf_fuse_main, and mounts of root and of another user, for whom
 fusermount3 mounts."""
+import errno
 import os
 import pathlib
 import shutil
@@ -87,6 +88,33 @@ def test_a_socket_is_served_by_each_number_of_workers(hello, workers):
         for _ in range(200):
             assert client.ask(GETATTR, ROOT, GETATTR_RECORD).error == 0
         assert client.end() == (0, "")
+
+
+LATER = """#include "nizwarf_fuse.h"
+static int on_getattr(const nizwarf_req *req, uint64_t ino, const nizwarf_file_info *fi, nizwarf_attr *attr,
+		      struct timespec *attr_timeout)
+{
+	(void)req, (void)ino, (void)fi, (void)attr, (void)attr_timeout;
+	return NIZWARF_LATER;
+}
+
+int main(int argc, char **argv)
+{
+	const nizwarf_ops ops = { .getattr = on_getattr };
+
+	return nizwarf_fuse_main(argc, argv, &ops, NULL);
+}
+"""
+
+
+def test_a_deferred_reply_without_a_request_that_is_kept_is_reported_once(built, scratch):
+    (scratch / "later.c").write_text(LATER)
+    program = built.compile(scratch / "later.c", *find_fuse(), "-pthread")
+    with Client(Example("c", [program], ["--fd", "FD"])) as client:
+        assert client.ask(INIT, 0, INIT_RECORD).error == 0
+        assert [client.ask(GETATTR, ROOT, GETATTR_RECORD).error for _ in range(3)] == [-errno.EIO] * 3
+        assert client.end() == (0, f"{program.name}: opcode {GETATTR} returned NIZWARF_LATER, but kept no request: "
+                                "replying EIO\n")
 
 
 def test_a_descriptor_that_is_no_device_is_a_failure(hello):
@@ -239,6 +267,12 @@ def test_a_mount_point_that_is_missing_is_reported(hello, scratch, user):
     assert ended.returncode == 1
     assert f"{scratch}/none" in ended.stderr
     assert "No such file or directory" in ended.stderr
+
+
+def test_options_that_linux_refuses_are_reported(mount_hello):
+    mount = mount_hello("-o", "ro,max_read=x")
+    assert mount.end() == (1, f"hello: cannot mount on '{mount.path}' with options 'default_permissions,max_read=x': "
+                           "Invalid argument\n")
 
 
 def test_a_mount_point_of_another_user_is_refused(mount_hello, device_for_all, scratch):
