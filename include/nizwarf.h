@@ -520,7 +520,7 @@ typedef struct {
 	uint32_t type, pid;
 } nizwarf_lock;
 
-/* Returns the requested lock. */
+/* Returns the requested lock. For a lock of flock(2) the range is 0 to INT64_MAX. */
 nizwarf_lock nizwarf_lock_of(const nizwarf_call *call);
 
 /* Returns the second argument of ioctl(2), the request. */
@@ -872,9 +872,10 @@ size_t nizwarf_print_reply(const void *request, size_t len, const void *reply, s
 
 /* Notices, which a server sends to Linux on its own account. The program must write a notice to /dev/fuse in
  * one piece, as it writes a reply. It may do so on any thread, but must not do so inside a call for the same
- * node or name, and must not hold a lock that a call needs, because Linux may wait for a request in progress
- * before it handles the notice. The write fails with ENOENT if Linux has nothing cached for the node or name,
- * and with EINVAL if it does not support the notice. Virtio-fs has no notices.
+ * node or name, except with a nizwarf_notice_poll, and must not hold a lock that a call needs, because Linux
+ * may wait for a request in progress before it handles the notice. The write fails with ENOENT if Linux has
+ * nothing cached for the node or name, and with EINVAL if it does not support the notice. Virtio-fs has no
+ * notices.
  *
  * Each function encodes a notice into the first of the `size` bytes at `out`, and returns its length: at most
  * 48 bytes, or 41 bytes and the name. It returns 0 and writes nothing if the notice is longer than `size`, if
@@ -886,7 +887,9 @@ size_t nizwarf_print_reply(const void *request, size_t len, const void *reply, s
 enum { NIZWARF_EXPIRE_ONLY = 1 << 0 };
 
 /* Wakes the callers that wait for events of a file. `kh` is the number of a POLL that had
- * FUSE_POLL_SCHEDULE_NOTIFY; they poll again. */
+ * FUSE_POLL_SCHEDULE_NOTIFY; they poll again. `kh` is the same for all polls of one open file, and may be
+ * forgotten after its release; Linux ignores a number that it does not know. Linux waits for nothing when it
+ * handles this notice, so it may be sent inside any call, also a write to the same file. */
 size_t nizwarf_notice_poll(uint64_t kh, void *out, size_t size);
 
 /* Invalidates the cached attributes of a node, and `len` bytes of its cached data from `offset` on; all from

@@ -175,12 +175,14 @@ int nizwarf_fuse_unmount(const nizwarf_transport *by, const char *mountpoint);
 /* The same for a program that fails before it serves: nothing is printed, and a mount that is in use is detached. */
 void nizwarf_fuse_detach(const nizwarf_transport *by, const char *mountpoint);
 
-/* Serves requests until the file system is unmounted, and closes `device`. A first signal unmounts `mountpoint`. If
- * that is in use, serving ends when it is no longer used, at a second signal, or about a second later if a
- * request does not return; the process then calls `left` and ends. `mountpoint` must be NULL if another process
- * has mounted the device: a signal then ends the serving, except one with the value NIZWARF_FUSE_UNMOUNTED,
- * as sigqueue(3) sends it, which says that the other process unmounts. `device` may also be a socket
- * that preserves message boundaries; it is served until its peer closes it.
+/* Serves requests until the file system is unmounted, or the connection is aborted, as by umount -f; the mount may
+ * then remain, and nizwarf_fuse_unmount() removes it. Closes `device`. A first signal unmounts `mountpoint`. If
+ * that is in use, serving ends when it is no longer used, at a second signal, or about a second later if a call
+ * of `serve` does not return; a request that was kept does not count. If the call does not return even then,
+ * the process calls `left` and ends. `mountpoint` must be NULL if another process has mounted the device: a
+ * signal then ends the serving, except one with the value NIZWARF_FUSE_UNMOUNTED, as sigqueue(3) sends it, which
+ * says that the other process unmounts. `device` may also be a socket that preserves message boundaries; it is
+ * served until its peer closes it.
  *
  * Linux sends no DESTROY when /dev/fuse is unmounted, so the program should call nizwarf_end_ops() afterwards.
  * Returns 0 on success and 1 on failure. SIGPIPE is ignored from then on, and SIGRTMIN is used to interrupt workers. */
@@ -202,20 +204,24 @@ ssize_t nizwarf_fuse_write_to(int fd, uint64_t offset, size_t size);
 
 /* Sends a notice of nizwarf.h, such as that of nizwarf_notice_inval_inode, to the kernel: `len` bytes at `notice`, then
  * `data_len` bytes at `data`, which may be NULL if there are none. Any thread may call it. The caller must
- * hold no lock that `serve` takes, because the kernel may wait for a request while it handles a notice.
- * Returns 0 or an error number: ENOTCONN before INIT was answered and after the end of the mount, ENOENT if
- * the kernel does not know the node or the name. */
+ * hold no lock that `serve` takes, and must not send it inside a call for the same node or name, except a
+ * nizwarf_notice_poll, because the kernel may wait for a request while it handles a notice. Returns 0 or an error
+ * number: ENOTCONN before INIT was answered and after the end of the mount, ENOENT if the kernel does not know
+ * the node or the name. */
 int nizwarf_fuse_notify(nizwarf_fuse_notices *notices, const void *notice, size_t len, const void *data,
 			size_t data_len);
 
 /* Keeps the request that `serve` has on this thread, so that it can be completed later, without a worker that
- * waits. `serve` must then return NIZWARF_CALL, and the program must call nizwarf_request_complete() once. Returns
- * NULL if there is no memory or the limit `io_uring_kept` is reached; the request must then be served at once. */
+ * waits. After a success `serve` must return NIZWARF_CALL (a function of a table NIZWARF_LATER), and the program
+ * must call nizwarf_request_complete() once. Returns NULL if there is no memory or the limit `io_uring_kept` is
+ * reached; the request must then be served at once. Returns NULL also if the request was kept already or if this
+ * thread serves no request. */
 nizwarf_request *nizwarf_request_keep(void);
 
 /* Completes a request that was kept, and frees it: with the reply of `len` bytes if `code` is NIZWARF_OK, and
  * otherwise with an error, as if `serve` had returned `code`. Any thread may call it, also before `serve` has
- * returned, and after the mount has ended: nothing is sent then. */
+ * returned. Requests that are still kept when nizwarf_fuse_serve() has returned must be completed as well, because
+ * their memory is not freed otherwise; nothing is sent. */
 void nizwarf_request_complete(nizwarf_request *request, int32_t code, const void *reply, size_t len);
 
 #ifdef __cplusplus

@@ -1,9 +1,13 @@
 /* nizwarf_ops.h - a FUSE file system as a table of functions, modelled on libfuse's fuse_lowlevel_ops.
  *
  * Fill in a nizwarf_ops, then call nizwarf_fuse_main() of nizwarf_fuse.h, which mounts it, or
- * nizwarf_serve_ops() for each request: it decodes the request, calls the
- * function of the table, and encodes the reply. Members have libfuse's names where they mean the same. The
- * examples have hello.c, a file system of one file, and news.c, which uses every optional operation.
+ * nizwarf_serve_ops() for each request: it decodes the request, calls the function of the table, and encodes
+ * the reply. Members have libfuse's names where they mean the same. The examples have hello.c, a file system
+ * of one file, and news.c, which uses the optional operations except copy_file_range.
+ *
+ * Names that begin with FUSE_, FATTR_ and FOPEN_ are those of linux/fuse.h, which a program must include
+ * itself, as it must the headers of other constants: poll.h, dirent.h, sys/xattr.h, sys/mount.h, and stdio.h
+ * with _GNU_SOURCE for RENAME_NOREPLACE.
  *
  * Return values. A function returns 0 or a positive error number of errno.h, such as ENOENT; a negative
  * number is an error of the program and is replied as EIO. Results are stored through the pointers at the end
@@ -319,9 +323,9 @@ typedef struct nizwarf_ops {
 	 * of the open file. Linux ignores the result, so errors should be reported by flush or fsync. The
 	 * node stays valid until it is forgotten, which happens later.
 	 *
-	 * If `req->call->has` has NIZWARF_RELEASE_FLOCK_UNLOCK, the function must release the lock of
-	 * flock(2) that `fi->lock_owner` has. The library calls it as well if the reply to open, create or
-	 * tmpfile did not reach the client. */
+	 * If `req->call->has` has NIZWARF_RELEASE_FLOCK_UNLOCK (NIZWARF_HAS_OWNER is then set too), the
+	 * function must release the lock of flock(2) that `fi->lock_owner` has. The library calls it as well
+	 * if the reply to open, create or tmpfile did not reach the client. */
 	int (*release)(const nizwarf_req *req, uint64_t ino, const nizwarf_file_info *fi);
 	/* Writes a file to stable storage, for fsync(2) and fdatasync(2), and for O_SYNC. If `datasync` is
 	 * not 0, metadata that reading the data does not need may be left out. ENOSYS, and so a NULL fsync,
@@ -497,6 +501,10 @@ typedef struct nizwarf_ops {
 	 * if nobody waits. The function itself must not wait. Other errors than ENOSYS are reported to the
 	 * caller as POLLERR.
 	 *
+	 * A file whose readers poll should be opened with FOPEN_DIRECT_IO. Otherwise a reader that is woken
+	 * by a write may still find the old size in Linux's cache, because Linux updates it only after the
+	 * reply to the write; to send the notice after the reply does not suffice.
+	 *
 	 * ENOSYS, and so a NULL poll, has a lasting effect: Linux then reports each file as readable and
 	 * writable. */
 	int (*poll)(const nizwarf_req *req, uint64_t ino, const nizwarf_file_info *fi, uint32_t events,
@@ -509,8 +517,8 @@ typedef struct nizwarf_ops {
 	int (*tmpfile)(const nizwarf_req *req, uint64_t parent, uint32_t mode, nizwarf_file_info *fi,
 		       nizwarf_entry_param *e);
 	/* Returns attributes for statx(2), of which `mask` says which are requested and `flags`,
-	 * AT_STATX_SYNC_TYPE, how current they must be. The function must set the bits of the fields that it
-	 * has filled in in `statx->mask`, and may set `*timeout`. `fi` is NULL unless the request names an
+	 * AT_STATX_SYNC_TYPE, how current they must be. The function must set in `statx->mask` the bits of
+	 * the fields that it has filled in, and may set `*timeout`. `fi` is NULL unless the request names an
 	 * open file. Linux 6.6 and later sends it when the birth time is requested, and getattr otherwise.
 	 * ENOSYS, and so a NULL statx, has a lasting effect: Linux sends getattr only. */
 	int (*statx)(const nizwarf_req *req, uint64_t ino, uint32_t flags, uint32_t mask,
@@ -522,7 +530,8 @@ typedef struct nizwarf_ops {
 			       const void *data, size_t size);
 	/* A function of the table, or nizwarf_finish_ops, has returned `error`, which is no error number of
 	 * Linux: it is below 0, such as -ENOENT, or above NIZWARF_MAX_ERRNO. EIO is replied in its place. A
-	 * program should log the first one, because its users see EIO alone: hello.c does so. It may be
+	 * program should log the first one, because its users see EIO alone. nizwarf_fuse_main does so if
+	 * the table has no bad_error; a program that calls nizwarf_serve_ops must do it itself. It may be
 	 * called on any thread. */
 	void (*bad_error)(void *user, const nizwarf_call *call, int error);
 } nizwarf_ops;
@@ -583,8 +592,9 @@ int nizwarf_add_direntry_plus(nizwarf_dir *dir, const char *name, const nizwarf_
 /* Encodes the deferred reply to a call whose function returned NIZWARF_LATER. It must be called once for each
  * such call, on any thread. `call` is the copy that the function made. `answer` is filled in as for
  * nizwarf_encode, with `error` 0 or the error that the function would have returned. The reply buffer must
- * have as many bytes as the one that the request was served with; for a READ the program must store the data
- * after its first 16 bytes. The scratch memory must not be in use by another call.
+ * have room for the reply to this call: 16 bytes for a call without a result, such as setlk or flock, and at
+ * most as many bytes as the buffer that the request was served with. For a READ the program must store the
+ * data after its first 16 bytes. The scratch memory must not be in use by another call.
  *
  * Returns a code as nizwarf_serve_ops does, and the length of the reply in `*reply_len`.
  * NIZWARF_OUT_OF_MEMORY is returned only if the scratch memory is not the one that the request was served
