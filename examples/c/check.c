@@ -1,26 +1,28 @@
-/* A check in front of a server of FUSE that trusts whoever sends it requests, as libfuse does: it leaves
- * to the kernel, or to who sends in its place, that they are whole.
+/* Checks requests for a FUSE server that trusts its client, as a server over libfuse does, which expects
+ * well-formed requests because the kernel sends no others.
  *
  * Usage: check DESCRIPTOR PROGRAM [ARGUMENT..]
  *
- * At the other end of the descriptor is the peer, who may send anything: it is a socket that keeps
- * messages apart, as SOCK_SEQPACKET. The program is started with one word more, the descriptor of another
- * such socket, and serves FUSE there, as a session of libfuse with custom io. Each request is copied, and
- * judged by nizwarf_check. What asks for a call is handed on as it came, and the reply back. All else is
- * answered here, and never reaches the program:
+ * The descriptor must be a socket that preserves message boundaries, such as SOCK_SEQPACKET. At its other end
+ * is the peer, which may send anything. The program is started with one more argument, the descriptor of
+ * another such socket, and must serve FUSE there, as a session of libfuse with custom io does. Each request is
+ * copied and passed to nizwarf_check. If it requires a call of the file system, it is passed on unchanged, and
+ * so is the reply. This program replies to all others itself:
  *
- * - what is refused, with EIO;
- * - what needs no file system, as an opcode that is none, with the reply of nizwarf_decode;
- * - a request that says another length than it has, and a WRITE of more bytes than it has, with EIO,
- *   though nizwarf_check takes both;
- * - what nobody looks at, as SETUPMAPPING, with ENOSYS.
+ * - to a malformed request with EIO;
+ * - to a request that needs no file system, such as one with an unknown opcode, with the reply of
+ *   nizwarf_decode;
+ * - to a request whose length is not the one in its header, and to a WRITE with fewer data than its size, with
+ *   EIO, although nizwarf_check accepts both;
+ * - to a request for which no function exists, such as SETUPMAPPING, with ENOSYS.
  *
- * The options are those of the program's reply to INIT. Nothing is handed on before that came, nor after
- * a DESTROY, nor a second INIT: as numbers of requests are the peer's, no reply could be told from that of
- * an INIT then. Names, nodes and handles are the peer's too: whether there are such, the program knows.
+ * The options are those of the program's reply to INIT. No request is passed on before this reply or after a
+ * DESTROY, and no INIT after a successful one, because the peer chooses the numbers of requests, so that the
+ * reply to an INIT could not be recognised among other replies. The program must check names, nodes and handles itself, because only
+ * the program knows which exist.
  *
- * Status 0: the peer has gone; 1: the program has gone, or something failed; 2: the words can't be.
- * Standard error says which, and how many requests were handed on. */
+ * Exit status: 0 if the peer has disconnected, 1 if the program has disconnected or a system call failed, 2 if
+ * the arguments are invalid. A message on standard error says which, and how many requests were passed on. */
 #define _GNU_SOURCE
 #include <errno.h>
 #include <linux/fuse.h>
@@ -33,41 +35,40 @@
 #include <unistd.h>
 #include "nizwarf.h"
 
-/* In bytes: the largest payload of libfuse, and the longest message, which has records and a header besides. */
+/* In bytes: the largest payload of libfuse, and the longest message, which also has a header and a record. */
 enum { PAYLOAD = 1 << 20, LONGEST = PAYLOAD + 4096 };
 
-/* The rows that the program may have besides: it answers ENOSYS itself to others. */
+/* The optional operations that are passed on. A program that lacks one replies ENOSYS itself. */
 enum {
-	OFFERS = NIZWARF_FEATURE_LOCKS | NIZWARF_FEATURE_BMAP | NIZWARF_FEATURE_IOCTL | NIZWARF_FEATURE_POLL |
-		 NIZWARF_FEATURE_STATX | NIZWARF_FEATURE_COPY_64 | NIZWARF_FEATURE_TMPFILE |
-		 NIZWARF_FEATURE_NOTIFY_REPLY
+	FEATURES = NIZWARF_FEATURE_LOCKS | NIZWARF_FEATURE_BMAP | NIZWARF_FEATURE_IOCTL |
+		   NIZWARF_FEATURE_POLL | NIZWARF_FEATURE_STATX | NIZWARF_FEATURE_COPY_64 |
+		   NIZWARF_FEATURE_TMPFILE | NIZWARF_FEATURE_NOTIFY_REPLY
 };
 
-/* What becomes of a request: it is handed on, or answered here with some bytes, or none. */
-enum { HAND_ON = -1 };
+/* The result of judge() for a request that must be passed on. */
+enum { PASS_ON = -1 };
 
 static const char usage[] = "Usage: check DESCRIPTOR PROGRAM [ARGUMENT..]\n"
 			    "Passes well-formed FUSE requests of the descriptor to the program, and replies\n"
 			    "to the others itself. The program gets a descriptor as one more argument.\n";
-/* A copy of the peer's message, and the reply that is made or handed back: the peer can't change either while it is
- * looked at. */
+/* The request and its reply. Both are copies, so that the peer cannot change them while they are checked. */
 static unsigned char request[LONGEST], room[LONGEST];
-static nizwarf_session session = { 0, 4096, PAYLOAD }; /* options, the size of a page, the payload */
+static nizwarf_session session = { 0, 4096, PAYLOAD }; /* (the page size matters only in replies to INIT) */
 static nizwarf_scratch scratch = NIZWARF_SCRATCH_INIT;
-/* The sockets to the peer, and to the program. */
+/* The sockets of the peer and of the program. */
 static int peer, behind;
-/* Before an INIT; the program has one; it agreed; a DESTROY was handed on. */
+/* No INIT yet; an INIT was passed on; its reply was successful; a DESTROY was passed on. */
 static enum state { NEW, ASKED, AGREED, OVER } state;
 
-/* Ends with status 1, and says why by errno. */
+/* Prints the reason, from errno, and exits with status 1. */
 static _Noreturn void stop(const char *what)
 {
 	fprintf(stderr, "check: cannot %s: %s\n", what, strerror(errno));
 	exit(1);
 }
 
-/* Puts an error into the room, if a reply is due. How many bytes the reply has, or 0. FORGETs and INTERRUPTs have
- * none, as Linux says. */
+/* Stores an error reply in `room`, and returns its length, or 0 if no reply is due: Linux expects none to these four
+ * opcodes. */
 static ssize_t refuse(const struct fuse_in_header *asked, int error)
 {
 	const struct fuse_out_header reply = { sizeof(reply), -error, asked->unique };
@@ -79,8 +80,7 @@ static ssize_t refuse(const struct fuse_in_header *asked, int error)
 	return sizeof(reply);
 }
 
-/* Answers a request of that many bytes that needs no file system. How many bytes the reply has, which is in the room,
- * or 0. */
+/* Replies to a request that needs no file system: stores the reply in `room`, and returns its length. */
 static ssize_t finish(size_t size)
 {
 	const struct iovec piece = { request, size };
@@ -88,13 +88,13 @@ static ssize_t finish(size_t size)
 	nizwarf_call call;
 	nizwarf_result result;
 
-	/* (it makes no call, so there is none to answer: that was looked at before) */
+	/* (nizwarf_check has found that no call is to be made) */
 	nizwarf_decode(&scratch, &session, 0, &piece, 1, &whole, 1, &call, &result);
 	return (ssize_t)result.len;
 }
 
-/* Judges a request of that many bytes. HAND_ON, or how many bytes of reply there are to it in the room, or 0. It may
- * be more bytes than `request` has. */
+/* Checks a request. Returns PASS_ON, or the length of the reply that it has stored in `room`, which may be 0. `size`
+ * is larger than `request` if the message was truncated. */
 static ssize_t judge(size_t size)
 {
 	struct fuse_in_header asked;
@@ -102,37 +102,37 @@ static ssize_t judge(size_t size)
 	nizwarf_call call;
 	int32_t code;
 
-	/* (nobody could say which request a reply is to) */
+	/* (a reply needs the number of the request, which is in the header) */
 	if (size < sizeof(asked))
 		return 0;
 	memcpy(&asked, request, sizeof(asked));
 	if (asked.len != size || size > sizeof(request))
 		return refuse(&asked, EIO);
-	/* (`interrupts` is what an INTERRUPT wants to end, which the program has to see) */
-	code = nizwarf_check(&session, OFFERS, request, size, LONGEST, &call, &interrupts);
+	/* (an INTERRUPT, for which `interrupts` is set, makes no call, but the program must receive it) */
+	code = nizwarf_check(&session, FEATURES, request, size, LONGEST, &call, &interrupts);
 	if (code == NIZWARF_OK)
-		return interrupts && state == AGREED ? HAND_ON : finish(size);
+		return interrupts && state == AGREED ? PASS_ON : finish(size);
 	if (code != NIZWARF_CALL)
 		return refuse(&asked, EIO);
-	/* (no program that has the offered rows serves these) */
+	/* (no program serves these, whichever features it has) */
 	if (call.reply == NIZWARF_REPLY_ERROR || call.reply == NIZWARF_REPLY_ERROR_OR_NONE)
 		return refuse(&asked, ENOSYS);
-	/* (libfuse would give its file system what is after the message) */
+	/* (libfuse would pass bytes after the end of the message to the file system) */
 	if (call.opcode == NIZWARF_WRITE && call.size > call.data.len)
 		return refuse(&asked, EIO);
-	/* (libfuse judges by its own `got_init`, which is set before the reply) */
+	/* (libfuse would accept requests before its reply to INIT) */
 	if (state != (call.opcode == NIZWARF_INIT ? NEW : AGREED))
 		return refuse(&asked, EIO);
 	if (call.opcode == NIZWARF_INIT)
 		state = ASKED;
 	if (call.opcode == NIZWARF_DESTROY)
 		state = OVER;
-	return HAND_ON;
+	return PASS_ON;
 }
 
-/* Takes what was agreed on from the reply to an INIT. After a refusal there may be another INIT. A notice, whose code
- * is where a reply has an error below 0, is no reply. A reply may be shorter than the record: what it lacks is
- * 0. */
+/* Reads the negotiated options from the reply to an INIT. After an error the peer may send another INIT. A message
+ * with an `error` above 0 is a notice, not a reply. The record of an old version is shorter; the missing fields
+ * are 0. */
 static void agree(const unsigned char *reply, size_t size)
 {
 	struct fuse_init_out agreed = { 0 };
@@ -144,19 +144,18 @@ static void agree(const unsigned char *reply, size_t size)
 	size -= size < sizeof(head) ? size : sizeof(head);
 	memcpy(&agreed, reply + sizeof(head), size < sizeof(agreed) ? size : sizeof(agreed));
 	session.options = agreed.flags | (uint64_t)agreed.flags2 << 32;
-	/* (`size` is now that of the record alone) */
 	state = size && !head.error ? AGREED : NEW;
 }
 
-/* Gives what is in the room to the peer, or an error where that is longer than a message can be. A peer that has gone
- * is found by the next look at its socket. One that takes no replies holds up nobody but itself. */
+/* Sends the reply in `room` to the peer, or EIO if the reply is longer than the longest message of the socket. This may
+ * block if the peer reads no replies, which harms nobody else. */
 static void reply(size_t size)
 {
 	struct fuse_out_header head;
 
 	if (send(peer, room, size, MSG_NOSIGNAL) >= 0 || errno == EPIPE || errno == ECONNRESET)
 		return;
-	/* (so it calls itself once at most) */
+	/* (a header always fits, so the recursion ends) */
 	if (errno != EMSGSIZE || size <= sizeof(head))
 		stop("send a reply");
 	memcpy(&head, room, sizeof(head));
@@ -166,10 +165,10 @@ static void reply(size_t size)
 	reply(sizeof(head));
 }
 
-/* Gives a reply of the program to the peer. 0: the program has gone. */
-static int hand_back(void)
+/* Passes a reply of the program to the peer. Returns 0 if the program has disconnected. */
+static int pass_back(void)
 {
-	/* (with MSG_TRUNC it's the message's size, also where that is more than the room's) */
+	/* (with MSG_TRUNC recv returns the size of the message, even if it is larger than the buffer) */
 	const ssize_t size = recv(behind, room, sizeof(room), MSG_TRUNC);
 
 	if (size < 0 && errno != ECONNRESET)
@@ -180,18 +179,18 @@ static int hand_back(void)
 		errno = EMSGSIZE;
 		stop("receive a reply of the program");
 	}
-	/* (nothing else was handed on meanwhile: what is no notice is the reply to INIT) */
+	/* (no other request is passed on before this reply, so it can only be that to the INIT, or a notice) */
 	if (state == ASKED)
 		agree(room, (size_t)size);
 	reply((size_t)size);
 	return 1;
 }
 
-/* Gives a request to the program, and takes replies meanwhile, since the program may wait for that. 1: it
- * has it; 0: it is longer than a message can be; -1: the program has gone. */
-static int hand_on(size_t size)
+/* Passes a request to the program. Returns 1, 0 if the request is longer than the longest message of the socket, or -1
+ * if the program has disconnected. */
+static int pass_on(size_t size)
 {
-	/* (not to wait here: the program may wait for its replies to be taken) */
+	/* (this must not block in send, because the program may itself wait until its replies are read) */
 	while (send(behind, request, size, MSG_NOSIGNAL | MSG_DONTWAIT) < 0) {
 		struct pollfd wait = { behind, POLLIN | POLLOUT, 0 };
 
@@ -201,18 +200,18 @@ static int hand_on(size_t size)
 			return -1;
 		if (errno != EAGAIN || (poll(&wait, 1, -1) < 0 && errno != EINTR))
 			stop("pass on a request");
-		/* (a reply in `room`, which `take` has not filled yet) */
-		if (wait.revents & POLLIN && !hand_back())
+		if (wait.revents & POLLIN && !pass_back())
 			return -1;
 	}
 	return 1;
 }
 
-/* Takes a request of the peer. 1: it was answered or handed on; 0: the peer has gone; -1: the program has. */
+/* Receives a request of the peer, and passes it on or replies. Returns 1, 0 if the peer has disconnected, or -1 if the
+ * program has. */
 static int take(unsigned long *asked, unsigned long *handed)
 {
 	const ssize_t size = recv(peer, request, sizeof(request), MSG_TRUNC);
-	/* (judge() counts a request as handed on) */
+	/* (judge() changes the state as if the request were passed on) */
 	const enum state before = state;
 	struct fuse_in_header head;
 	ssize_t made;
@@ -224,14 +223,14 @@ static int take(unsigned long *asked, unsigned long *handed)
 		return 0;
 	++*asked;
 	made = judge((size_t)size);
-	if (made == HAND_ON) {
-		given = hand_on((size_t)size);
+	if (made == PASS_ON) {
+		given = pass_on((size_t)size);
 		if (given < 0)
 			return -1;
-		/* (it has a header: judge() hands on no shorter one) */
+		/* (judge() rejects requests without a header) */
 		memcpy(&head, request, sizeof(head));
 		made = given ? 0 : refuse(&head, EIO);
-		/* (no reply would come to an INIT that the program doesn't have) */
+		/* (after an INIT that was not passed on, no reply would ever change the state) */
 		if (!given)
 			state = before;
 		*handed += (unsigned)given;
@@ -241,19 +240,19 @@ static int take(unsigned long *asked, unsigned long *handed)
 	return 1;
 }
 
-/* Serves until one of the two has gone. 1: it was the peer. While an INIT is with the program, the peer waits: what
- * it may ask after that depends on the reply. */
+/* Serves until the peer or the program has disconnected; returns 1 if it was the peer. No request is received while the
+ * program has an INIT, because the reply decides how the next one is checked. */
 static int serve(unsigned long *asked, unsigned long *handed)
 {
 	for (;;) {
-		/* (poll lets -1 pass) */
+		/* (poll ignores a descriptor of -1) */
 		struct pollfd wait[] = { { behind, POLLIN, 0 }, { state == ASKED ? -1 : peer, POLLIN, 0 } };
 		int taken = 1;
 
 		if (poll(wait, 2, -1) < 0 && errno != EINTR)
 			stop("poll");
-		/* (first the program's: what it said before it went comes to the peer) */
-		if (wait[0].revents && !hand_back())
+		/* (first the program, so that its last replies reach the peer) */
+		if (wait[0].revents && !pass_back())
 			return 0;
 		if (wait[1].revents)
 			taken = take(asked, handed);
@@ -262,9 +261,9 @@ static int serve(unsigned long *asked, unsigned long *handed)
 	}
 }
 
-/* Makes a message as long as a request of the largest payload, if that is allowed. The kernel counts what it needs
- * besides too, hence twice. SO_SNDBUFFORCE wants CAP_NET_ADMIN; without that the system's limit holds, and what is
- * longer is refused. */
+/* Enlarges the send buffer of a socket, so that it can send the longest message. Twice the length is needed, because
+ * Linux counts its own memory too. SO_SNDBUFFORCE requires CAP_NET_ADMIN. Without it the limit of the system applies,
+ * and longer messages are rejected. */
 static void widen(int fd)
 {
 	const int size = 2 * LONGEST;
@@ -274,14 +273,14 @@ static void widen(int fd)
 		stop("use the descriptor as a socket");
 }
 
-/* Starts the program with the other end of `behind`. It has no other descriptor of ours, so the program can't reach
- * the peer beside the check. */
+/* Starts the program with the other end of `behind`. The socket of the peer must be closed there, because the program
+ * could otherwise read requests that were not checked. */
 static void start(int count, char **words)
 {
 	char **program = calloc((size_t)count + 2, sizeof(*program)), number[16];
 	int ends[2];
 
-	/* (no SOCK_CLOEXEC: the program is to have its end) */
+	/* (without SOCK_CLOEXEC, because the program inherits its end) */
 	if (!program || socketpair(AF_UNIX, SOCK_SEQPACKET, 0, ends))
 		stop("create a socket pair");
 	widen(ends[0]);
@@ -296,7 +295,7 @@ static void start(int count, char **words)
 		close(peer);
 		close(ends[0]);
 		execvp(program[0], program);
-		stop(program[0]); /* in the child: the parent finds its end closed */
+		stop(program[0]); /* (in the child; the parent then finds that the socket is closed) */
 	}
 	free(program);
 	close(ends[1]);
@@ -313,12 +312,12 @@ int main(int count, char **words)
 	if (count < 3 || words[1][strspn(words[1], "0123456789")])
 		return fputs(usage, stderr), 2;
 	peer = atoi(words[1]);
-	widen(peer); /* which also finds out if it is a socket */
+	widen(peer); /* (fails if it is no socket) */
 	start(count - 2, words + 2);
 	gone = serve(&asked, &handed);
 	fprintf(stderr, "check: %lu requests, %lu passed on: the %s has disconnected\n", asked, handed,
 		gone ? "peer" : "program");
-	/* (by which a program that serves still learns to end) */
+	/* (a program that still serves ends when its socket is closed) */
 	close(behind);
 	close(peer);
 	nizwarf_scratch_free(&scratch);

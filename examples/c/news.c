@@ -1,15 +1,15 @@
-/* A file system of nizwarf_ops.h with one file, `news`, that has what virtiofsd has not: locks, which are kept here
- * and waited for without a thread, STATX, TMPFILE, IOCTL, POLL and BMAP; and that keeps everything for a day, so what
- * changes is told by notices.
+/* A file system of nizwarf_ops.h with one file, `news`, which uses operations that virtiofsd lacks: locks, for which no
+ * thread waits, STATX, TMPFILE, IOCTL, POLL and BMAP. Linux may cache everything for a day, so the program must send a
+ * notice of each change.
  *
- * Usage: news [--io_uring] MOUNTPOINT, as root. Requests come by io_uring then, and up to KEPT of a processor wait. Lines
- * of standard input change it, and each is answered by `done`:
+ * Usage: news [--io_uring] MOUNTPOINT, as root. With --io_uring requests come over io_uring, and up to KEPT of each
+ * processor may wait. Each line of standard input is a command, after which the program prints `done`:
  *
- *	set TEXT, quiet TEXT	its text, with a notice and without
- *	store TEXT		its text, which is put into the kernel's memory
- *	retrieve		prints what of it is there
- *	name NAME, quietname NAME	its name, with a notice and without
- *	delete NAME, prune, poll, resend, epoch		these notices
+ *	set TEXT, quiet TEXT	changes the text of the file, with a notice and without
+ *	store TEXT		changes the text, and stores it in Linux's cache
+ *	retrieve		prints the text that is in Linux's cache
+ *	name NAME, quietname NAME	renames the file, with a notice and without
+ *	delete NAME, prune, poll, resend, epoch		send these notices
  *	show			prints the locks, and how many lookups were forgotten
  */
 #define _GNU_SOURCE
@@ -32,48 +32,49 @@ enum {
 	MOST_LOCKS = 256, /* of all owners, and as many that wait */
 	DAY = 86400,	  /* seconds */
 	WORKERS = 2,
-	KEPT = 4,			      /* requests of a processor that wait, over io_uring */
-	MESSAGE = NIZWARF_MAX_PAYLOAD + 4096, /* bytes: a reply's most, with its header */
-	ITEMS = 8,     /* of a listing; a larger directory would be listed in several replies all the same */
+	KEPT = 4,			      /* requests of a processor that may wait over io_uring */
+	MESSAGE = NIZWARF_MAX_PAYLOAD + 4096, /* bytes of the largest reply */
+	ITEMS = 8,     /* entries in one reply to READDIR; Linux reads again for more */
 	LONGEST = 4096 /* bytes of a text, and of a line */
 };
 
 static char text[LONGEST] = "old\n", name[64] = "news", unnamed[LONGEST];
 static size_t unnamed_len;
-static uint64_t forgotten;	/* lookups that were given back */
-static _Atomic uint64_t polled; /* the number that wakes who polls, or 0 */
+static uint64_t forgotten;	/* lookups */
+static _Atomic uint64_t polled; /* `kh` of the last poll that waits, or 0 */
 
-/* Of all that is here. It is never held while a notice is sent, for which the kernel may wait for a request. `text`
- * and `name` change on one thread alone, which reads them without it. */
+/* Protects all data of the file system. It must not be held while a notice is sent, because Linux may then wait for a
+ * request. Only the thread of the commands changes `text` and `name`, so it may read them without the lock. */
 static pthread_mutex_t lock = PTHREAD_MUTEX_INITIALIZER;
 static nizwarf_fuse_notices notices = NIZWARF_FUSE_NOTICES_INIT;
-static nizwarf_session session = { 0, 4096, NIZWARF_MAX_PAYLOAD };
-/* Scratch memory has one caller at a time: each worker has its own, and the last one is used under the lock. */
+/* (main sets the page size) */
+static nizwarf_session session = { .max_buffer = NIZWARF_MAX_PAYLOAD };
+/* Each worker must have its own scratch memory, because it serves one call at a time. `late_slot` is used under the
+ * lock. */
 static nizwarf_scratch slots[NIZWARF_MAX_WORKERS], late_slot = NIZWARF_SCRATCH_INIT;
 
 /* ---- locks */
 
-/* A lock of an owner, of one of two kinds. `is_used` says whether there is one here. */
+/* A lock that an owner has. */
 static struct held {
-	uint64_t owner;	    /* as the kernel tells it apart */
-	nizwarf_lock lock;  /* from `start` to `end`, both within */
-	int flock, is_used; /* of flock(2), or else of fcntl(2) */
+	uint64_t owner;
+	nizwarf_lock lock;
+	int flock, is_used; /* `flock`: of flock(2), otherwise of fcntl(2) */
 } held[MOST_LOCKS];
 
-/* Of those that came before their calls. (Over io_uring an INTERRUPT comes by read(2), and can be earlier than what
- * it ends.) */
+/* Interrupts that arrived before their calls. */
 static nizwarf_interrupts early;
 
-/* A lock that is waited for. */
+/* A call that waits for a lock. */
 static struct waiting {
-	nizwarf_call call;	/* a copy: the request's own is gone once `serve` comes back */
-	nizwarf_request *later; /* NULL: nobody waits here */
+	nizwarf_call call;	/* a copy, because that of `serve` is valid only until it returns */
+	nizwarf_request *later; /* NULL if this element is free */
 } waiting[MOST_LOCKS];
 
-/* A lock that keeps the owner from this one, or NULL. Those of the two kinds don't see each other; nor would those of
- * two files, and a process is the same owner in all of them. The lock of all that is here is held, also in the next
- * ones. */
-static const struct held *in_the_way(uint64_t owner, const nizwarf_lock *wanted, int flock)
+/* A lock that conflicts with the wanted one, or NULL. Locks of flock(2) and of fcntl(2) never conflict. A file system
+ * with several files must also compare the nodes, because a process is the same owner in all files. The caller must
+ * hold `lock`, here and in the functions up to wait_for. */
+static const struct held *conflicting(uint64_t owner, const nizwarf_lock *wanted, int flock)
 {
 	for (int i = 0; i < MOST_LOCKS; i++) {
 		const struct held *h = &held[i];
@@ -85,7 +86,7 @@ static const struct held *in_the_way(uint64_t owner, const nizwarf_lock *wanted,
 	return NULL;
 }
 
-/* There is a place. */
+/* Adds a lock. The caller has checked that there is a free place. */
 static void add(uint64_t owner, const nizwarf_lock *wanted, int flock)
 {
 	int i = 0;
@@ -95,14 +96,15 @@ static void add(uint64_t owner, const nizwarf_lock *wanted, int flock)
 	held[i] = (struct held){ owner, *wanted, flock, 1 };
 }
 
-/* Whether a lock is an owner's, of this kind, and has a part of the range. */
+/* Whether a lock of this owner and kind overlaps the range. */
 static int is_cut(const struct held *h, uint64_t owner, const nizwarf_lock *wanted, int flock)
 {
 	return h->is_used && h->flock == flock && h->owner == owner && h->lock.start <= wanted->end &&
 	       wanted->start <= h->lock.end;
 }
 
-/* Whether there are places for what a change leaves: nothing of a lock is lost for want of one. */
+/* Whether there are places for the locks that remain after a change, so that a change either succeeds or leaves all
+ * locks as they were. */
 static int has_places(uint64_t owner, const nizwarf_lock *wanted, int flock)
 {
 	int places = 0, needed = wanted->type != F_UNLCK;
@@ -117,8 +119,8 @@ static int has_places(uint64_t owner, const nizwarf_lock *wanted, int flock)
 	return needed <= places;
 }
 
-/* Takes a range from an owner's locks, and gives it a new one unless that is F_UNLCK. ENOLCK: nothing was changed, since
- * there are not as many places. */
+/* Removes a range from an owner's locks, and adds the new lock unless its type is F_UNLCK. Returns ENOLCK, and changes
+ * nothing, if there are too few places. */
 static int change(uint64_t owner, const nizwarf_lock *wanted, int flock)
 {
 	if (!has_places(owner, wanted, flock))
@@ -129,7 +131,7 @@ static int change(uint64_t owner, const nizwarf_lock *wanted, int flock)
 		if (!is_cut(&held[i], owner, wanted, flock))
 			continue;
 		held[i].is_used = 0;
-		/* (of a range that begins at 0, or has no end, these wrap around, and are not used) */
+		/* (if the range begins at 0, or ends at UINT64_MAX, one of these wraps around, and is not used) */
 		before.end = wanted->start - 1;
 		after.start = wanted->end + 1;
 		if (before.start < wanted->start)
@@ -144,24 +146,22 @@ static int change(uint64_t owner, const nizwarf_lock *wanted, int flock)
 
 static const nizwarf_ops ops;
 
-/* Answers a call that waited. It may be a reply before the call's own `serve` has come back: the transport has room
- * for that. */
+/* Replies to a call that waited. This may happen before the `serve` of that call has returned. */
 static void finish(struct waiting *w, int error)
 {
 	nizwarf_request *later = w->later;
 	nizwarf_answer answer = NIZWARF_ANSWER_INIT;
-	uint8_t room[LONGEST];
+	uint8_t reply[16]; /* has room for the reply, because a lock call has no result */
 	size_t len;
 	int32_t code;
 
 	answer.error = error;
-	/* (a reply without a record, so there is room) */
-	code = nizwarf_finish_ops(&ops, NULL, &late_slot, &session, &w->call, &answer, room, &len);
+	code = nizwarf_finish_ops(&ops, NULL, &late_slot, &session, &w->call, &answer, reply, &len);
 	w->later = NULL;
-	nizwarf_request_complete(later, code, room, len);
+	nizwarf_request_complete(later, code, reply, len);
 }
 
-/* Answers those that wait for a lock which nothing holds now. */
+/* Grants the locks of the waiters that no lock conflicts with any more. */
 static void wake(void)
 {
 	for (int i = 0; i < MOST_LOCKS; i++) {
@@ -169,14 +169,14 @@ static void wake(void)
 		const nizwarf_lock wanted = nizwarf_lock_of(call);
 		const int flock = (call->has & NIZWARF_LK_FLOCK) != 0;
 
-		if (waiting[i].later && !in_the_way(call->lock_owner, &wanted, flock))
-			/* (the next one is held against it: so of two that want the same one goes on waiting) */
+		if (waiting[i].later && !conflicting(call->lock_owner, &wanted, flock))
+			/* (later waiters are checked against the new lock, so only one of two that conflict gets it) */
 			finish(&waiting[i], change(call->lock_owner, &wanted, flock));
 	}
 }
 
-/* The call waits, and holds no thread. NIZWARF_LATER: it's answered then. EINTR: it was interrupted before it came.
- * ENOLCK: as many wait already. */
+/* Lets a call wait without a thread. Returns NIZWARF_LATER, EINTR if the call was interrupted before it began, or
+ * ENOLCK if no more calls may wait. */
 static int wait_for(const nizwarf_call *call)
 {
 	if (nizwarf_take_interrupt(&early, call->unique))
@@ -191,13 +191,13 @@ static int wait_for(const nizwarf_call *call)
 	return ENOLCK;
 }
 
-/* EAGAIN: it's held by another, and the caller doesn't wait. */
+/* Sets or releases a lock. Returns EAGAIN if another owner has it and the caller does not wait. */
 static int set_lock(const nizwarf_call *call, const nizwarf_lock *wanted, int waits, int flock)
 {
 	int error;
 
 	pthread_mutex_lock(&lock);
-	if (wanted->type == F_UNLCK || !in_the_way(call->lock_owner, wanted, flock)) {
+	if (wanted->type == F_UNLCK || !conflicting(call->lock_owner, wanted, flock)) {
 		error = change(call->lock_owner, wanted, flock);
 		wake();
 	} else {
@@ -207,14 +207,13 @@ static int set_lock(const nizwarf_call *call, const nizwarf_lock *wanted, int wa
 	return error;
 }
 
-/* The lock that is in the way, or F_UNLCK in its place. */
 static int news_getlk(const nizwarf_req *req, uint64_t ino, const nizwarf_file_info *fi, nizwarf_lock *asked)
 {
 	const struct held *other;
 
 	(void)req, (void)ino;
 	pthread_mutex_lock(&lock);
-	other = in_the_way(fi->lock_owner, asked, 0);
+	other = conflicting(fi->lock_owner, asked, 0);
 	asked->type = F_UNLCK;
 	if (other)
 		*asked = other->lock;
@@ -222,7 +221,6 @@ static int news_getlk(const nizwarf_req *req, uint64_t ino, const nizwarf_file_i
 	return 0;
 }
 
-/* Of the process, as fcntl(2) has it; `sleep` is F_SETLKW. */
 static int news_setlk(const nizwarf_req *req, uint64_t ino, const nizwarf_file_info *fi,
 		      const nizwarf_lock *wanted, int sleep)
 {
@@ -232,7 +230,7 @@ static int news_setlk(const nizwarf_req *req, uint64_t ino, const nizwarf_file_i
 
 static int news_flock(const nizwarf_req *req, uint64_t ino, const nizwarf_file_info *fi, int op)
 {
-	const nizwarf_lock all = { 0, INT64_MAX, /* from 0 to the last byte of any file */
+	const nizwarf_lock all = { 0, INT64_MAX,
 				   op & LOCK_UN ? F_UNLCK :
 				   op & LOCK_SH ? F_RDLCK :
 						  F_WRLCK,
@@ -242,7 +240,8 @@ static int news_flock(const nizwarf_req *req, uint64_t ino, const nizwarf_file_i
 	return set_lock(req->call, &all, !(op & LOCK_NB), 1);
 }
 
-/* Called for an INTERRUPT, of any call. One that doesn't wait here ends soon by itself, or has ended. */
+/* The interrupted call may be one that does not wait for a lock, or that has ended: then nothing must be done. It may
+ * also be one that has not begun, so its number must be kept. */
 static void news_interrupt(void *user, uint64_t unique)
 {
 	int is_found = 0;
@@ -259,7 +258,7 @@ static void news_interrupt(void *user, uint64_t unique)
 	pthread_mutex_unlock(&lock);
 }
 
-/* All locks of an owner go. */
+/* Releases all locks of an owner. */
 static int unlock(uint64_t owner, int flock)
 {
 	const nizwarf_lock all = { 0, UINT64_MAX, F_UNLCK, 0 };
@@ -272,14 +271,13 @@ static int unlock(uint64_t owner, int flock)
 	return error;
 }
 
-/* At each close(2) of a descriptor the process gives its locks of the file up, as POSIX says. */
+/* At each close(2) of a descriptor the process loses its locks on the file, as POSIX requires. */
 static int news_flush(const nizwarf_req *req, uint64_t ino, const nizwarf_file_info *fi)
 {
 	(void)req, (void)ino;
 	return unlock(fi->lock_owner, 0);
 }
 
-/* With the last descriptor its flock(2) lock goes, if the kernel says that there is one. */
 static int news_release(const nizwarf_req *req, uint64_t ino, const nizwarf_file_info *fi)
 {
 	(void)ino;
@@ -288,7 +286,7 @@ static int news_release(const nizwarf_req *req, uint64_t ino, const nizwarf_file
 
 /* ---- the file */
 
-/* In bytes. The lock is held. */
+/* In bytes. The caller must hold `lock`. */
 static size_t size_of(uint64_t ino)
 {
 	return ino == ROOT ? 0 : ino == UNNAMED ? unnamed_len : strlen(text);
@@ -301,7 +299,7 @@ static int news_getattr(const nizwarf_req *req, uint64_t ino, const nizwarf_file
 	attr_timeout->tv_sec = DAY;
 	attr->ino = ino;
 	attr->mode = ino == ROOT ? S_IFDIR | 0755 : S_IFREG | 0644;
-	attr->nlink = ino != UNNAMED; /* no name leads to it */
+	attr->nlink = ino != UNNAMED;
 	pthread_mutex_lock(&lock);
 	attr->size = size_of(ino);
 	pthread_mutex_unlock(&lock);
@@ -317,14 +315,14 @@ static int news_statx(const nizwarf_req *req, uint64_t ino, uint32_t flags, uint
 	statx->ino = ino;
 	statx->mode = ino == ROOT ? S_IFDIR | 0755 : S_IFREG | 0644;
 	statx->nlink = ino != UNNAMED;
-	statx->btime.tv_sec = 1234567890; /* what no other call tells */
+	statx->btime.tv_sec = 1234567890; /* only STATX has a birth time */
 	pthread_mutex_lock(&lock);
 	statx->size = size_of(ino);
 	pthread_mutex_unlock(&lock);
 	return 0;
 }
 
-/* Some number, by which it can be seen that the call came. */
+/* The file has no blocks; the number shows that Linux has sent the call. */
 static int news_bmap(const nizwarf_req *req, uint64_t ino, size_t blocksize, uint64_t idx, uint64_t *block)
 {
 	(void)req, (void)ino, (void)blocksize;
@@ -332,7 +330,7 @@ static int news_bmap(const nizwarf_req *req, uint64_t ino, size_t blocksize, uin
 	return 0;
 }
 
-/* The command 1 tells how long the text is, and 2 how long what is handed in is; any other is none. */
+/* Command 1 returns the length of the text, and command 2 the length of the string that the caller passes. */
 static int news_ioctl(const nizwarf_req *req, uint64_t ino, uint32_t cmd, uint64_t arg,
 		      const nizwarf_file_info *fi, uint32_t flags, const void *in_buf, size_t in_size,
 		      nizwarf_ioctl *out, void *out_buf, size_t out_size, size_t *len)
@@ -352,11 +350,10 @@ static int news_ioctl(const nizwarf_req *req, uint64_t ino, uint32_t cmd, uint64
 		return EINVAL;
 	memcpy(out_buf, &count, sizeof(count));
 	*len = sizeof(count);
-	out->result = 7; /* what ioctl(2) returns */
+	out->result = 7; /* the return value of ioctl(2) */
 	return 0;
 }
 
-/* With `notify` the kernel wants a notice with this number, once there is something to read. */
 static int news_poll(const nizwarf_req *req, uint64_t ino, const nizwarf_file_info *fi, uint32_t events,
 		     uint64_t kh, int notify, uint32_t *revents)
 {
@@ -372,7 +369,7 @@ static int news_lookup(const nizwarf_req *req, uint64_t parent, const char *want
 {
 	int is_news;
 
-	/* (also that there is no such name is kept for a day) */
+	/* (Linux may also remember for a day that there is no such name) */
 	e->entry_timeout.tv_sec = DAY;
 	pthread_mutex_lock(&lock);
 	is_news = parent == ROOT && !strcmp(wanted, name);
@@ -386,7 +383,6 @@ static int news_lookup(const nizwarf_req *req, uint64_t parent, const char *want
 static int news_open(const nizwarf_req *req, uint64_t ino, nizwarf_file_info *fi)
 {
 	(void)req, (void)ino;
-	/* (what the kernel has of the text stays, from one open to the next) */
 	fi->open_flags = FOPEN_KEEP_CACHE;
 	return 0;
 }
@@ -396,7 +392,7 @@ static int news_readdir(const nizwarf_req *req, uint64_t ino, uint64_t off, cons
 {
 	(void)req, (void)fi;
 	pthread_mutex_lock(&lock);
-	/* (`off` is where a listing goes on, and so the number of the item after) */
+	/* (the position of an entry is its number, because there are always the same three) */
 	while (off < 3 && nizwarf_add_direntry(dir,
 					       off == 2 ? name :
 					       off	? ".." :
@@ -426,11 +422,11 @@ static int news_write(const nizwarf_req *req, uint64_t ino, const void *buf, siz
 		      const nizwarf_file_info *fi, size_t *len)
 {
 	(void)req, (void)fi;
-	/* (no overflow: `off` was looked at first) */
+	/* (`off` is checked first, so that the subtraction cannot overflow) */
 	if (ino != UNNAMED || off > sizeof(unnamed) || size > sizeof(unnamed) - off)
 		return ENOSPC;
 	pthread_mutex_lock(&lock);
-	/* (what an earlier file had there is none of a hole's) */
+	/* (a hole must read as zeros, not as data of an earlier file) */
 	if (off > unnamed_len)
 		memset(unnamed + unnamed_len, 0, off - unnamed_len);
 	memcpy(unnamed + off, buf, size);
@@ -441,7 +437,7 @@ static int news_write(const nizwarf_req *req, uint64_t ino, const void *buf, siz
 	return 0;
 }
 
-/* There is one file without a name, which is empty from then on. */
+/* There is only one file without a name, so each call empties it. */
 static int news_tmpfile(const nizwarf_req *req, uint64_t parent, uint32_t mode, nizwarf_file_info *fi,
 			nizwarf_entry_param *e)
 {
@@ -457,7 +453,7 @@ static int news_tmpfile(const nizwarf_req *req, uint64_t parent, uint32_t mode, 
 static int news_conn(const nizwarf_req *req, nizwarf_conn_info *conn)
 {
 	(void)req;
-	/* POSIX_LOCKS, FLOCK_LOCKS and HAS_RESEND, of which older headers of Linux lack the last. */
+	/* POSIX_LOCKS, FLOCK_LOCKS and HAS_RESEND; older headers of Linux lack the last one. */
 	conn->want |= UINT64_C(1) << 1 | UINT64_C(1) << 10 | UINT64_C(1) << 39;
 	conn->max_background = 20;
 	conn->time_gran = 1;
@@ -472,7 +468,6 @@ static void news_forget(const nizwarf_req *req, uint64_t ino, uint64_t nlookup)
 	pthread_mutex_unlock(&lock);
 }
 
-/* It comes as a request of its own, after the notice was sent, on any worker. */
 static void news_retrieve_reply(const nizwarf_req *req, uint64_t cookie, uint64_t ino, uint64_t offset,
 				const void *data, size_t size)
 {
@@ -503,9 +498,9 @@ static const nizwarf_ops ops = { .conn = news_conn,
 				 .tmpfile = news_tmpfile,
 				 .retrieve_reply = news_retrieve_reply };
 
-/* ---- lines that change it */
+/* ---- commands */
 
-/* ENOENT is no fault: the kernel has nothing of that node or name. */
+/* Sends a notice. ENOENT is no error, because it means that Linux has nothing cached for the node or the name. */
 static void tell(const void *notice, size_t len, const void *data, size_t data_len, const char *what)
 {
 	const int error = nizwarf_fuse_notify(&notices, notice, len, data, data_len);
@@ -522,7 +517,7 @@ static void tell_entry(const char *of)
 	     "inval_entry");
 }
 
-/* Cut, if it's longer than there is room for. */
+/* Truncates a text that is too long. */
 static void set_text(const char *to)
 {
 	pthread_mutex_lock(&lock);
@@ -551,7 +546,7 @@ static void show(void)
 	pthread_mutex_unlock(&lock);
 }
 
-/* `set` has the kernel ask again, `store` gives it the text, and with `quiet` it keeps what it has. */
+/* After `set` Linux reads the text again, after `store` it has the new text, and after `quiet` it keeps the old one. */
 static void obey_text(const char *word, const char *rest)
 {
 	uint8_t notice[64];
@@ -571,7 +566,7 @@ static void obey_name(const char *word, const char *rest)
 	uint8_t notice[256];
 
 	if (!strcmp(word, "delete")) {
-		/* (no file has it: so the root is empty) */
+		/* (no lookup matches an empty name, so the file is gone) */
 		set_name("");
 		tell(notice, nizwarf_notice_delete(ROOT, NEWS, rest, strlen(rest), notice, sizeof(notice)),
 		     NULL, 0, "delete");
@@ -600,7 +595,7 @@ static void obey_notice(const char *word)
 		len = nizwarf_notice_prune(1, notice, sizeof(notice));
 		tell(notice, len, &node, sizeof(node), word);
 	} else if (!strcmp(word, "retrieve")) {
-		/* any number, which comes back */
+		/* (77 is the `cookie` of retrieve_reply) */
 		len = nizwarf_notice_retrieve(77, NEWS, 0, sizeof(text), notice, sizeof(notice));
 		tell(notice, len, NULL, 0, word);
 	}
@@ -622,7 +617,7 @@ static void obey(char *line)
 	fflush(stdout);
 }
 
-/* The thread of the lines, which ends with standard input. */
+/* The thread of the commands. It ends with standard input. */
 static void *obey_each(void *none)
 {
 	char line[LONGEST];
@@ -634,7 +629,7 @@ static void *obey_each(void *none)
 	return none;
 }
 
-/* Memory for a reply in one piece, of each worker. By the worker's number, which alone uses it. */
+/* Each worker's buffer for a reply in one segment. */
 static uint8_t *replies[NIZWARF_MAX_WORKERS];
 
 static int begin(void *user, unsigned worker)
@@ -651,7 +646,7 @@ static void end(void *user, unsigned worker)
 	free(replies[worker]);
 }
 
-/* (over io_uring a reply is in two pieces) `size` is no more than MESSAGE: the header, and a payload. */
+/* Over io_uring the reply buffer has two segments, but nizwarf_serve_ops needs one, so the reply is copied. */
 static int32_t serve(void *user, unsigned worker, const struct iovec *request, size_t segments,
 		     const struct iovec *room, size_t rooms, size_t *len)
 {
@@ -662,7 +657,6 @@ static int32_t serve(void *user, unsigned worker, const struct iovec *request, s
 	(void)segments;
 	for (size_t i = 0; i < rooms; i++)
 		size += room[i].iov_len;
-	/* (the request is in one segment, as the transport of /dev/fuse says) */
 	code = nizwarf_serve_ops(&ops, user, &slots[worker], &session, request->iov_base, request->iov_len,
 				 rooms > 1 ? replies[worker] : room->iov_base, size, items, ITEMS, len);
 	for (size_t i = 0; rooms > 1 && i < rooms && copied < *len; i++) {
@@ -682,7 +676,6 @@ int main(int count, char **words)
 				       .workers = WORKERS,
 				       .io_uring = by_ring,
 				       .io_uring_workers = 2,
-				       /* (its requests have memory of their own for each that may be kept) */
 				       .io_uring_kept = KEPT,
 				       .io_uring_warn = 1,
 				       .notices = &notices,
@@ -694,17 +687,17 @@ int main(int count, char **words)
 
 	if (count != 2 + by_ring || !strcmp(words[1], "--help"))
 		return fputs("Usage: news [--io_uring] MOUNTPOINT\n", stderr), 2;
+	session.page_size = (uint32_t)sysconf(_SC_PAGESIZE);
 	device = nizwarf_fuse_mount(&by, "news", words[1 + by_ring], MS_NOSUID | MS_NODEV,
 				    "default_permissions");
 	if (device < 0)
 		return 1;
-	/* (the thread has the mask of who starts it, where a mount has blocked signals: they are for who serves) */
+	/* The thread inherits the signal mask, in which the mount has blocked the signals. */
 	if (pthread_create(&lines, NULL, obey_each, NULL)) {
-		/* (nobody would serve what is mounted) */
 		nizwarf_fuse_detach(&by, words[1 + by_ring]);
 		return 1;
 	}
-	/* (it ends with the process) */
+	/* (it may wait for standard input until the process ends) */
 	pthread_detach(lines);
 	status = nizwarf_fuse_serve(&by, device, words[1 + by_ring]);
 	nizwarf_scratch_free(&late_slot);

@@ -7,12 +7,13 @@
 #define _GNU_SOURCE
 #include <stdio.h>
 #include <sys/mount.h>
+#include <unistd.h>
 #include "nizwarf_fuse.h"
 
 enum { ROOT = 1, N, M, SIZE = 4096, NOTICE = 64, TIMEOUT = 100, ITEMS = 4 };
 
 static nizwarf_fuse_notices notices = NIZWARF_FUSE_NOTICES_INIT;
-static nizwarf_session session = { 0, SIZE, NIZWARF_MAX_PAYLOAD };
+static nizwarf_session session = { .max_buffer = NIZWARF_MAX_PAYLOAD };
 static nizwarf_scratch scratch;
 
 static int on_getattr(const nizwarf_req *req, uint64_t ino, const nizwarf_file_info *fi, nizwarf_attr *attr,
@@ -73,5 +74,6 @@ int main(int argc, char **argv)
 				       .serve = serve };
 	const int device = nizwarf_fuse_mount(&by, by.program, argv[argc - 1], MS_NOSUID | MS_NODEV, NULL);
 
+	session.page_size = (uint32_t)sysconf(_SC_PAGESIZE);
 	return device < 0 ? 1 : nizwarf_fuse_serve(&by, device, argv[argc - 1]);
 }
