@@ -10,7 +10,7 @@ import functools
 import os
 import threading
 from ctypes import Structure, c_int32, c_uint16, c_uint32, c_uint64
-from typing import Any, Callable, Dict, Optional, Tuple, Type, TypeVar
+from typing import Any, Callable, Dict, Optional, Type, TypeVar
 
 # The types of fields, and those of arguments.
 U16, U32, U64, I32, I64, SIZE = c_uint16, c_uint32, c_uint64, c_int32, ctypes.c_int64, ctypes.c_size_t

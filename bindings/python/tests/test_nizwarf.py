@@ -436,7 +436,7 @@ def test_a_signal_that_comes_to_another_thread_is_not_lost(threads, number):
         former = os.pipe2(os.O_NONBLOCK)[1]
         signal.set_wakeup_fd(former)
         signal.signal(signal.SIGUSR1, lambda *_: called.append("other"))
-        handler = signal.signal(number, signal.SIG_DFL)
+        signal.signal(number, signal.SIG_DFL)
         peer = Peer()
         threading.Thread(target=raise_signals).start()
         serve(FileSystem(), peer.theirs.fileno(), threads=threads)
