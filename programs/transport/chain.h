@@ -1,10 +1,10 @@
-/* The queues of a virtio device, for a transport: split virtqueues, virtio 1.2, section 2.7. Packed ones are not
- * there.
+/* Split virtqueues, for a transport: virtio 1.2, section 2.7. Packed virtqueues are not supported.
  *
- * A guest may write its memory at any time. So the transport copies each descriptor of a chain once, and a
- * function of the library says of the copy what it is: a piece of the request or of the room for its reply, as a
- * place in the memory that the guest shares, an indirect table, or why there is no chain. That the pieces are
- * those of the chain, that each lies in a region, and that a walk ends is proved (crates/vhost_protocol).
+ * A guest may write its memory at any time. So the transport must copy each descriptor of a chain once, and
+ * pass the copy to nizwarf_chain_step_at(). That decodes it: as a piece of the request or of the reply
+ * buffer, with its place in the shared memory; as an indirect table; or as an error, which says why the chain
+ * is invalid. It is proved that the pieces are those of the chain, that each lies in a region, and that a
+ * walk ends (crates/vhost_protocol).
  *
  *	int32_t step = nizwarf_chain_begin_at(size, most, head, &walk);
  *
@@ -16,8 +16,8 @@
  *		..
  *	}
  *
- * The functions have no state and allocate nothing: any number of threads may call them. No pointer is NULL, and
- * that to a list of length 0 may point anywhere. */
+ * The functions have no state and allocate nothing, so any number of threads may call them. No pointer may be
+ * NULL, but the pointer to a list of length 0 may point anywhere. */
 #ifndef CHAIN_H
 #define CHAIN_H
 
@@ -28,13 +28,13 @@
 extern "C" {
 #endif
 
-/* Memory that a guest shares: the guest's address of its first byte, and how many it has. */
+/* A region of memory that a guest shares: its address in the guest, and its size in bytes. */
 typedef struct {
 	uint64_t address, size;
 } nizwarf_region;
 
-/* Bytes of a request, or of the room for its reply, which are `writable`: how far from the first byte of which
- * region. */
+/* A piece of a request, or if `writable` of a reply buffer: the number of its region, its offset there, and
+ * its length. */
 typedef struct {
 	size_t region;
 	uint64_t offset;
@@ -42,60 +42,62 @@ typedef struct {
 	uint8_t writable;
 } nizwarf_piece;
 
-/* How far a chain was walked. To be copied next are the 16 bytes of the descriptor `at` of the table, which is
- * always one of it. All else is the library's. */
+/* The state of a walk along a chain. The caller must copy the 16 bytes of the descriptor `at` of the current
+ * table, which is always below the number of its entries. The other fields belong to the library. */
 typedef struct {
 	uint64_t rest;
 	uint32_t at, entries, left, most;
 	uint8_t indirect, writable;
 } nizwarf_walk;
 
-/* What a descriptor comes to. */
+/* What nizwarf_chain_step_at() has decoded, or why the chain is invalid. */
 enum {
 	/* The last piece. */
 	NIZWARF_CHAIN_LAST = 0,
-	/* A piece, or the begin: a descriptor is to be copied. */
+	/* A piece that is not the last, or the beginning of the chain: the caller must copy the next
+	 * descriptor. */
 	NIZWARF_CHAIN_MORE = 1,
-	/* An indirect table: the piece says where, and the first of its descriptors is to be copied. */
+	/* An indirect table at the place of the piece: the caller must copy its first descriptor. */
 	NIZWARF_CHAIN_TABLE = 2,
-	/* No chain: a number that no descriptor of the table has; */
+	/* Invalid: the number of a descriptor exceeds the table. */
 	NIZWARF_CHAIN_OUTSIDE_TABLE = 3,
-	/* more descriptors than the table has; */
+	/* Invalid: the chain is longer than the table. */
 	NIZWARF_CHAIN_LONGER_THAN_TABLE = 4,
-	/* bytes of which no region has the first; */
+	/* Invalid: no region has the first byte of a piece. */
 	NIZWARF_CHAIN_OUTSIDE = 5,
-	/* bytes of which no region has all; */
+	/* Invalid: a piece exceeds its region. */
 	NIZWARF_CHAIN_PAST_END = 6,
-	/* a piece of the request after one of the room; */
+	/* Invalid: a piece of the request follows one of the reply buffer. */
 	NIZWARF_CHAIN_READABLE_AFTER_WRITABLE = 7,
-	/* more than 2^32 bytes; */
+	/* Invalid: the pieces have more than 2^32 bytes. */
 	NIZWARF_CHAIN_TOO_MANY_BYTES = 8,
-	/* an indirect table in an indirect table, */
+	/* Invalid: an indirect table is in an indirect table. */
 	NIZWARF_CHAIN_TABLE_IN_TABLE = 9,
-	/* one that another descriptor follows, */
+	/* Invalid: another descriptor follows an indirect table. */
 	NIZWARF_CHAIN_TABLE_GOES_ON = 10,
-	/* one without a descriptor, or that ends within one, */
+	/* Invalid: an indirect table is empty, or its size is not a multiple of a descriptor's. */
 	NIZWARF_CHAIN_TABLE_SIZE = 11,
-	/* and one of more descriptors than there may be. */
+	/* Invalid: an indirect table has more than `most` descriptors. */
 	NIZWARF_CHAIN_TOO_MANY_ENTRIES = 12
 };
 
-/* Begins with the descriptor `head` of a queue's table, which has `size`; an indirect table may have `most`. The
- * answer is NIZWARF_CHAIN_MORE, or else NIZWARF_CHAIN_OUTSIDE_TABLE. */
+/* Begins at the descriptor `head` of a queue's table, which has `size` descriptors. An indirect table may
+ * have `most` of them. Returns NIZWARF_CHAIN_MORE, or NIZWARF_CHAIN_OUTSIDE_TABLE if `head` is invalid. */
 int32_t nizwarf_chain_begin_at(uint32_t size, uint32_t most, uint32_t head, nizwarf_walk *walk);
-/* Says what a descriptor is, by its 16 bytes as two words, of the first 8 and of the others, each little endian.
- * Where there is no chain nothing is told, and the walk is over. */
+/* Decodes a descriptor, whose 16 bytes are passed as two little-endian words of 8 bytes. If the chain is
+ * invalid, the piece is not filled in, and the walk must not be continued. */
 int32_t nizwarf_chain_step_at(nizwarf_walk *walk, uint64_t first, uint64_t second,
 			      const nizwarf_region *region, size_t regions, nizwarf_piece *piece);
 
-/* How many chains wait in the available ring of a queue, by the guest's index there and that of the next one to be
- * taken. -1: more than the queue has, which can't be. */
+/* Returns how many chains wait in the available ring of a queue, from the guest's index there and the index
+ * of the next chain. Returns -1 if these are more than the queue has, which is invalid. */
 int32_t nizwarf_ring_waiting_at(uint16_t index, uint16_t next, uint32_t size);
-/* At which of a ring's entries an index is: of the available ring where the next chain is told, of the used ring
- * where one is given back. `size` is not 0. */
+/* Returns the entry of a ring that belongs to an index: in the available ring that of the next chain, in the
+ * used ring that of a completed chain. `size` must not be 0. */
 uint32_t nizwarf_ring_slot_at(uint16_t index, uint32_t size);
-/* Whether the other side wants to be told, 1 or 0, if VIRTIO_RING_F_EVENT_IDX was agreed on: entries were added to a
- * ring, from the index `old` up to before `new`, and it said the index `event`. */
+/* Returns 1 if the other side must be notified, and 0 if not, with VIRTIO_RING_F_EVENT_IDX. Entries were
+ * added to a ring from the index `old` up to but not including `new_index`, and the other side has set its
+ * index to `event`. */
 uint32_t nizwarf_ring_needs_event_at(uint16_t event, uint16_t new_index, uint16_t old);
 
 #ifdef __cplusplus
