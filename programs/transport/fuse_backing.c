@@ -1,14 +1,16 @@
-/* Files that Linux reads and writes by itself while a client has them open (passthrough): transport.h.
+/* Registers files that Linux reads and writes by itself while a client has them open (passthrough):
+ * transport.h.
  *
- * To name such a file to it takes CAP_SYS_ADMIN, by which a server could leave its sandbox. So a process of
- * its own keeps that, and no other capability, with two descriptors: the device, and a socket to the
- * server. It takes a descriptor, and answers the number of the file; or takes a number, which is closed.
- * What else it is sent ends it, and so does the end of the server.
+ * To register a file requires CAP_SYS_ADMIN, with which a server could leave its sandbox. So a process of its
+ * own keeps this capability, and no other, with two descriptors: the device, and a socket to the server. The
+ * server sends it a descriptor, to which it replies with the number of the file, or a number, which it
+ * closes. It exits after any other message, and when the server ends.
  *
- * It opens nothing by a name. But Linux opens what it is given anew, for reading and writing, and asks
- * nobody who may; so it takes what was opened for reading, and no file that even root may not write, or
- * only append to. And Linux writes such a file with the rights of this process: it lacks CAP_FSETID, so
- * that what is written loses its set-user-ID and set-group-ID bits, whoever writes. */
+ * The process opens nothing by name. But Linux opens the file of a descriptor anew, for reading and writing,
+ * without a check of permissions. So the process accepts only a descriptor that was opened for reading, and
+ * no file that even root may not write, or may only append to. Linux also writes to the file with the
+ * privileges of this process. Because it lacks CAP_FSETID, each write clears the set-user-ID and set-group-ID
+ * bits, whoever writes. */
 #define _GNU_SOURCE
 #include <errno.h>
 #include <fcntl.h>
@@ -28,23 +30,23 @@
 #include "say.h"
 #include "transport.h"
 
-/* In seconds: how long it is waited for. After that it is taken for gone, so an answer that comes later is
- * read by nobody. */
+/* In seconds: how long the server waits for the process. After that it regards the process as dead, so nobody
+ * reads a later reply. */
 enum { PATIENCE = 10 };
 
-/* What is asked: a number to be closed; 0: a descriptor comes with it. Only a descriptor has an answer, of
- * 4 bytes: the number of its file, or an error below 0. */
+/* A message of the server: the number to close, or 0 if a descriptor comes with it. Only a descriptor has a
+ * reply, of 4 bytes: the number of the file, or a negative error number. */
 struct asked {
 	uint32_t number;
 };
 
-/* Room for one descriptor, and to see that there are more. */
+/* Space for one descriptor, and for a second, so that a message with more than one is noticed. */
 union beside {
 	char bytes[CMSG_SPACE(2 * sizeof(int))];
 	struct cmsghdr aligned;
 };
 
-/* Says on standard error what failed, and why by errno, and answers -1. */
+/* Prints what failed and why, by errno, and returns -1. */
 static int say(const nizwarf_transport *by, const char *what)
 {
 	transport_say(by->program, "--passthrough: cannot %s: %s", what, strerror(errno));
@@ -53,8 +55,8 @@ static int say(const nizwarf_transport *by, const char *what)
 
 /* ---- the process */
 
-/* Leaves it its two descriptors, and closes all others, as those of the folder. (They are first moved out
- * of each other's way.) 0, or -1. */
+/* Keeps the two descriptors of the process, and closes all others, such as those of the shared directory.
+ * They are duplicated first, so that neither overwrites the other. Returns 0, or -1. */
 static int keep_descriptors(int device, int socket)
 {
 	int ends[2] = { fcntl(device, F_DUPFD, 3), fcntl(socket, F_DUPFD, 3) };
@@ -66,8 +68,8 @@ static int keep_descriptors(int device, int socket)
 		       0;
 }
 
-/* Leaves it one capability, which nothing that it executes would have: the bounding set is emptied before
- * CAP_SETPCAP goes. */
+/* Drops all capabilities but CAP_SYS_ADMIN. The bounding set must be emptied first, because that requires
+ * CAP_SETPCAP; so a program that this process executes would have no capability. Returns 0, or -1. */
 static int keep_capability(void)
 {
 	struct __user_cap_header_struct header = { _LINUX_CAPABILITY_VERSION_3, 0 };
@@ -78,7 +80,8 @@ static int keep_capability(void)
 	return syscall(SYS_capset, &header, one) || prctl(PR_SET_NO_NEW_PRIVS, 1, 0, 0, 0) ? -1 : 0;
 }
 
-/* The descriptors that came with a message, which are the caller's to close: how many, the first two. */
+/* Stores the first two descriptors of a message, which the caller must close. Returns how many were
+ * stored. */
 static unsigned take_descriptors(struct msghdr *message, int fds[2])
 {
 	struct cmsghdr *part = CMSG_FIRSTHDR(message);
@@ -93,11 +96,12 @@ static unsigned take_descriptors(struct msghdr *message, int fds[2])
 	return (unsigned)(len / sizeof(int));
 }
 
-/* How many files have a number, and how many may: as many as a process may have open. */
+/* The number of registered files, and its limit, which is that of the open files of a process. */
 static unsigned long named, most_named;
 
-/* The number of a file, or its error below 0. The descriptor stays the caller's; Linux holds the file by
- * itself then. The server may be in the hands of who attacks it, so the descriptor is looked at here. */
+/* Registers a file, and returns its number, or a negative error number. The caller keeps the descriptor,
+ * because Linux holds a reference of its own. The descriptor must be checked here, because an attacker may
+ * control the server. */
 static int32_t open_file(int fd)
 {
 	struct backing_map map = { .fd = fd };
@@ -118,8 +122,8 @@ static int32_t open_file(int fd)
 	return number < 0 ? -errno : number;
 }
 
-/* Closes a number. Whether it may have been one: ENOENT is that no file has it, and any other error ends
- * the process. */
+/* Closes a number. Returns whether the number was valid. ENOENT counts as valid, because the file may be
+ * closed already; after any other error the process exits. */
 static int close_number(uint32_t number)
 {
 	const int error = ioctl(BACKING_DEVICE, BACKING_CLOSE, &number) ? errno : 0;
@@ -128,8 +132,8 @@ static int close_number(uint32_t number)
 	return !error || error == ENOENT;
 }
 
-/* Does what one message asks. Whether another one may come: not if it was no message of the server's, or
- * that has ended. The process ends then, with whatever descriptors came with it. */
+/* Handles one message. Returns whether another one may follow; it may not after an invalid message, or if the
+ * server has ended. The process then exits, which closes the descriptors that came with the message. */
 static int answer_one(void)
 {
 	struct asked asked;
@@ -159,13 +163,13 @@ static int answer_one(void)
 	return send(BACKING_SOCKET, &result, sizeof(result), MSG_NOSIGNAL) == sizeof(result);
 }
 
-/* The process, after fork(2): it has one thread. `limit` filters its system calls, and so comes last. */
+/* Runs the process after fork(2), with one thread. `limit` filters its system calls, so it must come last. */
 static _Noreturn void name_files(const nizwarf_transport *by, int device, int socket,
 				 int (*limit)(void *user))
 {
 	struct rlimit files;
 
-	/* (a terminal's signals, and a manager's, are for the server, by whose end it ends) */
+	/* Signals of a terminal or a service manager are for the server; this process ends after it. */
 	signal(SIGINT, SIG_IGN);
 	signal(SIGTERM, SIG_IGN);
 	signal(SIGHUP, SIG_IGN);
@@ -175,7 +179,8 @@ static _Noreturn void name_files(const nizwarf_transport *by, int device, int so
 		_exit(1);
 	}
 	most_named = files.rlim_cur;
-	/* (from here on it has nowhere to say why: the server says that files are served by requests) */
+	/* From here on standard error is closed. If this fails, the server reports that it serves the files
+	 * by requests. */
 	if (keep_descriptors(device, socket) || limit(by->user))
 		_exit(1);
 	while (answer_one())
@@ -189,10 +194,11 @@ int fuse_backing_start(const nizwarf_transport *by, int device, int (*limit)(voi
 	int ends[2];
 	pid_t child;
 
-	/* (one that keeps messages apart: each is there wholly or not, and its descriptor with it) */
+	/* SOCK_SEQPACKET preserves message boundaries: a message arrives whole or not at all, with its
+	 * descriptor. */
 	if (socketpair(AF_UNIX, SOCK_SEQPACKET | SOCK_CLOEXEC, 0, ends))
 		return say(by, "create a socket pair");
-	/* (it answers soon, or never) */
+	/* The process replies soon or never, so the server must not wait for ever. */
 	if (setsockopt(ends[0], SOL_SOCKET, SO_RCVTIMEO, &patience, sizeof(patience)) ||
 	    setsockopt(ends[0], SOL_SOCKET, SO_SNDTIMEO, &patience, sizeof(patience)))
 		return say(by, "set the timeouts of a socket");
@@ -207,8 +213,8 @@ int fuse_backing_start(const nizwarf_transport *by, int device, int (*limit)(voi
 
 /* ---- the server */
 
-/* Asks, with the descriptor if it isn't NULL. Below 0: nobody reads any more, or not for as long as it is
- * waited for. */
+/* Sends a message, with a descriptor if `fd` is not NULL. Returns a negative number if nobody reads it, or
+ * not in time. */
 static ssize_t send_asked(int socket, uint32_t number, const int *fd)
 {
 	const struct asked asked = { number };
