@@ -1,27 +1,26 @@
 /* A transport for /dev/fuse: nizwarf_fuse.h.
  *
- * A read of the device is one request. The kernel copies it into the worker's memory, so nothing
- * changes it while it is answered. A write is one reply. Reads wait: a request takes two system
- * calls. Each worker but the first has a descriptor of its own for the device, by
- * FUSE_DEV_IOC_CLONE, and begins once the options are agreed on.
+ * A read of the device returns one request. The kernel copies it into the worker's memory, so nothing changes
+ * it while it is served. A write sends one reply. Reads block, so a request takes two system calls. Each
+ * worker but the first has a descriptor of its own for the device, by FUSE_DEV_IOC_CLONE, and starts after
+ * INIT.
  *
- * The kernel wakes those that read in turn, so one client would be served by one cold worker after
- * another. So only as many workers take requests as are wanted, one at first, and the others rest. A
- * worker that takes a request while others wait, and no one reads, calls one that rests: at once, if
- * there are data to copy, or else time after time; and in any case before one that may take long. While
- * requests come the calling thread looks from time to time whether some wait and no one reads, and
- * calls one too; and if it is calm, one less is wanted.
+ * The kernel wakes blocked readers in turn, so a single client would be served by one cold worker after
+ * another. So only as many workers take requests as are wanted, one at first, and the others rest. A worker
+ * that takes a request while others wait, and nobody reads, calls a resting one: at once if there are data to
+ * copy, otherwise only if this repeats, and always before a request that may take long. While requests come,
+ * the calling thread checks periodically whether some wait and nobody reads, and then also calls one. In calm
+ * periods it reduces the number of wanted workers by one.
  *
- * To sleep and to be woken takes longer than many clients take from a reply to the next request. So a
- * worker that is alone, and that was woken soon time after time, looks for as long as that takes whether
- * one comes before it sleeps.
+ * To sleep and be woken takes longer than many clients need from a reply to the next request. So a worker
+ * that is alone, and was repeatedly woken soon, polls for about that long before it sleeps.
  *
- * Many data take the way of a pipe, which has references to pages. Those of a READ are copied from the
- * file's pages to the client's, and those of a WRITE from the client's to the file's. A worker takes
- * requests by its pipe as long as each has such data.
+ * Large data go through a pipe, which holds references to pages. Those of a READ are copied from the file's
+ * pages to the client's, and those of a WRITE from the client's to the file's. A worker reads requests
+ * through its pipe as long as each has such data.
  *
- * Over io_uring other workers have the requests (fuse_ring.c). INIT, FORGET and INTERRUPT come by reads all
- * the same, and the first worker has them. */
+ * With io_uring, other workers take the requests (fuse_ring.c). INIT, FORGET and INTERRUPT are still read, by
+ * the first worker. */
 #define _GNU_SOURCE
 #include <errno.h>
 #include <fcntl.h>
@@ -43,32 +42,37 @@
 #include "later.h"
 #include "say.h"
 
-/* The longest request and reply: a header and its record take less than a page. Before the data of
- * a WRITE stand 80 bytes, and before those of a READ's reply 16. */
+/* The longest request and reply: a header and its record take less than a page. The data of a WRITE follow 80
+ * bytes, and those of the reply to a READ 16. */
 enum { PAGE = 4096, LONGEST = NIZWARF_MAX_PAYLOAD + PAGE, BEFORE_WRITE = 80, BEFORE_READ = 16 };
 
-/* In milliseconds: how often the calling thread looks if one worker alone is wanted and no request
- * waits, or else; when it no longer does so if none comes; and when one less is wanted. */
+/* In milliseconds: the period of the calling thread's checks if only one worker is wanted and no request
+ * waits (LONG_TICK), and otherwise (TICK); the time without requests after which it stops checking (QUIET);
+ * and the calm time after which it reduces the number of wanted workers (CALM). */
 enum { LONG_TICK = 16, TICK = 1, QUIET = 50, CALM = 20 };
-/* How many ticks in turn requests wait until it calls one: if none was taken meanwhile, or else. */
+/* The number of ticks in turn with a waiting request after which the calling thread calls a worker: if no
+ * request was taken meanwhile (STUCK_TICKS), and otherwise (WAITED_TICKS). */
 enum { STUCK_TICKS = 2, WAITED_TICKS = 4 };
-/* How many bytes are data to copy; of the other requests, of which each is looked whether others wait,
- * and how many in turn that find some call one more. */
+/* The number of bytes from which on data count as large (BULK). Of the other requests, one in LOOK_EACH
+ * checks whether more wait, and BACKLOGS such results in turn call a worker. */
 enum { BULK = 32768, LOOK_EACH = 8, BACKLOGS = 3 };
-/* In nanoseconds: how long a request that didn't wait already takes to come at least, and one that
- * comes soon at most, which is about what it takes to sleep and be woken: to look for longer costs more than
- * that. After that many of these more than of others a worker looks before it sleeps. */
+/* In nanoseconds: a request that arrives within LEAST_WAIT was waiting already, and one that arrives within
+ * SHORT_WAIT came soon. The latter is about the time to sleep and be woken, because to poll longer costs
+ * more. A worker polls before it sleeps once requests that came soon outnumber those that waited by
+ * SHORT_WAITS. */
 enum { LEAST_WAIT = 1500, SHORT_WAIT = 5000, SHORT_WAITS = 4 };
-/* In nanoseconds: how long what is read beside io_uring gathers. */
+/* In nanoseconds: how long requests that are read beside io_uring may gather. */
 enum { GATHER = 1000000 };
-/* In bytes: how large a pipe is, which has a place for each page; from how many data on to use it takes
- * less than a copy; and how many it holds after a header, if they don't begin at a page. */
+/* In bytes: the size of a pipe, which has a place for each page (PIPE); the size from which on data go
+ * through it, because that takes less time than a copy (LEAST_PIPED); and the data that fit after a header if
+ * they do not begin at a page (MOST_PIPED). */
 enum { PIPE = 2 * NIZWARF_MAX_SPLICE, LEAST_PIPED = 1 << 16, MOST_PIPED = PIPE - 2 * PAGE };
 
-/* In milliseconds, after a signal: how often it is looked what became of the requests; from when on they are
- * looked at, and until when; and when it ends, although some don't come back, or workers that have none. */
+/* In milliseconds after a signal: the period of the checks (LOOK_TICK); the times of the first and the last
+ * check of requests (LOOK_FROM, LOOK_UNTIL); and the times after which the process exits although a request
+ * does not return (MOST_JOIN), or a worker without one (MOST_IDLE). */
 enum { LOOK_TICK = 50, LOOK_FROM = 300, LOOK_UNTIL = 1300, MOST_JOIN = 600, MOST_IDLE = 2000 };
-/* In seconds: how long it waits at the end for replies that are being sent. */
+/* In seconds: how long the transport waits at its end for replies that are being sent. */
 enum { MOST_LATE = 1 };
 
 enum outcome { SERVED, ENDED, FAILED };
@@ -81,88 +85,94 @@ struct worker {
 	int fd;
 	pthread_t thread;
 	unsigned char *memory, *request, *room;
-	/* A page for the replies that fit, since Linux looks for each page of a reply; and where the reply is put to the
-	 * request that it has. */
+	/* A page for the replies that fit, because the cost to Linux depends on the pages of a reply buffer;
+	 * and the reply buffer of the current request. */
 	unsigned char *page, *reply;
-	/* How many requests came soon, less those that waited already, since one took longer. */
+	/* The number of short waits, less the requests that were waiting already, since the last long
+	 * wait. */
 	unsigned short_waits;
-	/* A pipe, -1 if it has none, and whether that has its size; how many bytes of a WRITE are in it, or
-	 * of the reply to a READ, which begins with this header; and whether the last request was a WRITE
-	 * of many. */
+	/* A pipe, or -1, and whether it has its size already; how many bytes of a WRITE are in it, or of the
+	 * reply to a READ, which begins with `header`; and whether the last request was a large WRITE. */
 	int pipe[2], is_large;
 	size_t written, piped;
 	struct fuse_out_header header;
 	int writes;
 };
 
-/* The worker that a thread is. */
+/* The worker of this thread. */
 static _Thread_local struct worker *serving;
 
 struct device {
 	const nizwarf_transport *by;
-	/* Is told by each worker that ends. */
+	/* An eventfd that each worker writes when it ends. */
 	int over;
 	atomic_int stop, failed;
-	/* How many workers the first one has started, each counted once its thread is there. */
+	/* The number of workers that the first one has started. Each is counted after its thread was
+	 * created. */
 	atomic_uint others;
-	/* Those over io_uring, which the first one starts in place of others; NULL: there are none. Others look at it. And
-	 * those that were made before, which are the first one's to take. */
+	/* The rings for io_uring, which the first worker starts instead of other workers, or NULL; other
+	 * threads read the pointer. `made` are rings that the program has made before, until the first worker
+	 * takes them. */
 	_Atomic(struct fuse_rings *) rings;
 	struct fuse_rings *made;
 	struct fuse_prepared prepared;
-	/* How many read now, and how many requests were taken. */
+	/* The number of workers that read now, and the number of requests that were taken. */
 	atomic_uint readers;
 	atomic_ulong taken;
-	/* How many don't rest, how many are not to, and how many requests in turn found others waiting. */
+	/* The number of workers that do not rest, the number that are wanted, and how many requests in turn
+	 * found others waiting. */
 	atomic_uint active, wanted, backlogs;
-	/* The calling thread waits for no tick, but to be told by `busy`. */
+	/* Is set while the calling thread waits without ticks, until a worker writes the eventfd `busy`. */
 	atomic_int sleeps;
 	int busy;
-	/* Those that rest, and how many of them are called, under the lock. (`wanted` changes under it, and is
-	 * looked at without.) */
+	/* The number of resting workers, and how many of these are called, under the lock. `wanted` changes
+	 * under the lock too, but is read without it. */
 	pthread_mutex_t lock;
 	pthread_cond_t call;
 	unsigned resting, called;
-	/* The requests that are answered later. */
+	/* The requests that are completed later. */
 	struct later_list later;
-	/* Beside io_uring: is held by whoever reads for the first one, whose memory that takes. */
+	/* With io_uring: must be held to read as the first worker, because that uses its memory. */
 	pthread_mutex_t reading;
 	struct worker worker[NIZWARF_MAX_WORKERS];
-	/* What each worker has begun and ended: odd while it has a request. They are apart in memory. */
+	/* Is incremented before and after each request of a worker, so it is odd while the worker has one.
+	 * The counts are in different cache lines. */
 	struct {
 		atomic_uint count;
 		char apart[60];
 	} turns[NIZWARF_MAX_WORKERS];
-	/* Unmounts after a signal, from this folder, while requests are looked at. */
+	/* After a signal this thread unmounts `folder`, while requests are still checked. */
 	const char *folder;
 	pthread_t unmounts;
 	int is_unmounting;
 	atomic_int unmount_failed;
 };
 
-/* Says what failed, as errno has it: -1. */
+/* Prints what failed and why, by errno, and returns -1. */
 static int say(const nizwarf_transport *by, const char *what)
 {
 	transport_say(by->program, "cannot %s: %s", what, strerror(errno));
 	return -1;
 }
 
-/* The same of a worker, which ends by it, and all others with it. */
+/* The same for a worker. It ends, and so do all others. */
 static enum outcome failed(const struct worker *w, const char *what)
 {
 	say(w->of->by, what);
 	return FAILED;
 }
 
-/* A refused request has no reply of the server's, and the kernel waits for one: it gets an error. Of
- * these four it awaits none. (The number of the last is a notice's, and may be another request's too.) */
+/* A rejected request has no reply of the server's, but the kernel waits for one, so it gets an error. There
+ * is no reply to the four requests below. (The number of a NOTIFY_REPLY is that of the notice, and another
+ * request may have it too.) */
 size_t fuse_device_refuse(const nizwarf_transport *by, const struct fuse_in_header *asked, int32_t code,
 			  void *room)
 {
 	struct fuse_out_header reply = { .len = sizeof(reply), .unique = asked->unique };
 	static atomic_flag reported = ATOMIC_FLAG_INIT;
 
-	/* (each request may do so, because it is an error of the program: one line suffices) */
+	/* A NIZWARF_LATER without a kept request is an error of the program. It is reported once, because
+	 * every request may have it. */
 	if (code != NIZWARF_CALL)
 		transport_say(by->program, "request with opcode %u failed: code %d of nizwarf.h",
 			      (unsigned)asked->opcode, (int)code);
@@ -190,7 +200,7 @@ int32_t fuse_device_ask(struct device *of, unsigned worker, const struct iovec *
 	return code;
 }
 
-/* Wakes who polls an eventfd. It may be told more than once before it looks. */
+/* Wakes the thread that polls an eventfd. Several writes before it reads count as one. */
 static void tell(const struct device *d, int event)
 {
 	const uint64_t one = 1;
@@ -199,7 +209,7 @@ static void tell(const struct device *d, int event)
 		say(d->by, "write to an eventfd");
 }
 
-/* Calls one that rests, if one does: as many are wanted from now on. */
+/* Calls a resting worker, if there is one, and increases the number of wanted workers accordingly. */
 static void call_one(struct device *d)
 {
 	pthread_mutex_lock(&d->lock);
@@ -211,7 +221,7 @@ static void call_one(struct device *d)
 	pthread_mutex_unlock(&d->lock);
 }
 
-/* One less is wanted, or one alone. */
+/* Reduces the number of wanted workers by one, or to one. */
 static void want_less(struct device *d, int alone)
 {
 	pthread_mutex_lock(&d->lock);
@@ -220,7 +230,7 @@ static void want_less(struct device *d, int alone)
 	pthread_mutex_unlock(&d->lock);
 }
 
-/* Whether a request waits. */
+/* Whether a request waits to be read. */
 static int is_waited_for(const struct worker *w)
 {
 	struct pollfd device = { w->fd, POLLIN, 0 };
@@ -228,7 +238,7 @@ static int is_waited_for(const struct worker *w)
 	return poll(&device, 1, 0) > 0;
 }
 
-/* Rests until it is called. */
+/* Rests until another thread calls this worker. */
 static void rest(struct device *d)
 {
 	pthread_mutex_lock(&d->lock);
@@ -243,7 +253,7 @@ static void rest(struct device *d)
 	pthread_mutex_unlock(&d->lock);
 }
 
-/* Rests if it isn't wanted: another one reads, and no request waits. */
+/* Rests if this worker is not wanted, another one reads, and no request waits. */
 static void rest_if_idle(const struct worker *w)
 {
 	struct device *d = w->of;
@@ -253,7 +263,7 @@ static void rest_if_idle(const struct worker *w)
 		rest(d);
 }
 
-/* Whether a request may take long, whatever its length is. */
+/* Whether a request may take long regardless of its size. */
 static int is_slow(const struct fuse_in_header *asked)
 {
 	return asked->opcode == FUSE_FSYNC || asked->opcode == FUSE_FSYNCDIR ||
@@ -261,7 +271,7 @@ static int is_slow(const struct fuse_in_header *asked)
 	       asked->opcode == FUSE_COPY_FILE_RANGE;
 }
 
-/* Whether a request has data to copy, or room for them. */
+/* Whether a request has large data, or a reply buffer for them. */
 static int is_bulk(const struct fuse_in_header *asked, size_t room)
 {
 	return asked->len >= BULK ||
@@ -269,14 +279,15 @@ static int is_bulk(const struct fuse_in_header *asked, size_t room)
 				 asked->opcode == FUSE_READDIRPLUS));
 }
 
-/* Whether no client waits for what a request comes to: one client alone has some of these at once. */
+/* Whether no client waits for the result. A single client may have several of these requests at once, so they
+ * must not call another worker. */
 static int is_let_go(const struct fuse_in_header *asked)
 {
 	return asked->opcode == FUSE_FORGET || asked->opcode == FUSE_BATCH_FORGET ||
 	       asked->opcode == FUSE_RELEASE || asked->opcode == FUSE_RELEASEDIR;
 }
 
-/* Calls one that rests if this request is slow, or if others wait while it is answered. */
+/* Calls a resting worker if this request is slow, or if others would wait for it. */
 static void call_if_late(const struct worker *w, const struct fuse_in_header *asked, size_t room)
 {
 	struct device *d = w->of;
@@ -293,7 +304,7 @@ static void call_if_late(const struct worker *w, const struct fuse_in_header *as
 	}
 }
 
-/* Nanoseconds of a clock that nobody sets. */
+/* Returns the monotonic time in nanoseconds. */
 static uint64_t now(void)
 {
 	struct timespec time;
@@ -302,7 +313,7 @@ static uint64_t now(void)
 	return (uint64_t)time.tv_sec * 1000000000 + (uint64_t)time.tv_nsec;
 }
 
-/* Data of a WRITE, or of a READ, go between the device and a file by it, and are not copied. Without one
+/* Makes a pipe, by which the data of a WRITE or a READ are moved between the device and a file. Without it
  * they are copied. */
 static void make_pipe(struct worker *w)
 {
@@ -310,7 +321,7 @@ static void make_pipe(struct worker *w)
 		w->pipe[0] = w->pipe[1] = -1;
 }
 
-/* What is left in a pipe goes with it: the next request must not find data of the last one there. */
+/* Closes the pipe with the data that are left in it, because the next request must not find them. */
 static void close_pipe(struct worker *w)
 {
 	for (int i = 0; i < 2; i++) {
@@ -322,7 +333,7 @@ static void close_pipe(struct worker *w)
 	w->written = w->piped = 0;
 }
 
-/* Whether a worker has a pipe, which gets its size with the first use. */
+/* Whether a worker has a pipe. The pipe gets its size when it is first used. */
 static int has_pipe(struct worker *w)
 {
 	if (w->is_large || w->pipe[1] < 0)
@@ -333,7 +344,7 @@ static int has_pipe(struct worker *w)
 	return w->is_large;
 }
 
-/* Takes that many bytes from the pipe, which has them. 0, or -1 with errno. */
+/* Reads `len` bytes from the pipe, which must have them. Returns 0, or -1 with errno. */
 static int empty_pipe(struct worker *w, unsigned char *to, size_t len)
 {
 	while (len) {
@@ -350,7 +361,7 @@ static int empty_pipe(struct worker *w, unsigned char *to, size_t len)
 	return 0;
 }
 
-/* Takes a request by the pipe. The data of a WRITE of many are left there. Answers its length, or -1
+/* Reads a request through the pipe, and leaves the data of a large WRITE there. Returns its length, or -1
  * with errno. */
 static ssize_t take_by_pipe(struct worker *w)
 {
@@ -358,7 +369,7 @@ static ssize_t take_by_pipe(struct worker *w)
 	const size_t len = got < 0 ? 0 : (size_t)got, head = len < BEFORE_WRITE ? len : BEFORE_WRITE;
 	struct fuse_in_header asked;
 
-	/* (the error is that of the next reading, if it is one of the device) */
+	/* If the device caused this error, the next read returns it. */
 	w->writes = 0;
 	if (got < 0 && errno != ENODEV)
 		errno = EAGAIN;
@@ -371,7 +382,7 @@ static ssize_t take_by_pipe(struct worker *w)
 	return got;
 }
 
-/* One request, whole: the kernel gives no part of one. The length, or -1 with errno. */
+/* Reads one request, because the kernel returns only whole ones. Returns its length, or -1 with errno. */
 static ssize_t take(struct worker *w)
 {
 	return w->writes && has_pipe(w) ? take_by_pipe(w) : read(w->fd, w->request, LONGEST);
@@ -391,7 +402,7 @@ ssize_t nizwarf_fuse_write_to(int fd, uint64_t offset, size_t size)
 		put = splice(w->pipe[0], NULL, fd, &at, size - done, 0);
 		done += put > 0 ? (size_t)put : 0;
 	}
-	/* (who writes the others without a pipe tells the error) */
+	/* The caller writes the other data without the pipe, and so gets the error itself. */
 	size = w->written - done;
 	w->written = 0;
 	return empty_pipe(w, w->request + BEFORE_WRITE + done, size) ? -1 : (ssize_t)done;
@@ -418,13 +429,13 @@ ssize_t nizwarf_fuse_read_from(int fd, uint64_t offset, size_t size)
 	w->piped = sizeof(header) + done;
 	if (got >= 0)
 		return (ssize_t)done;
-	/* (who reads without a pipe tells the error) */
+	/* The caller reads without the pipe, and so gets the error itself. */
 	empty_pipe(w, w->room, w->piped);
 	w->piped = 0;
 	return -1;
 }
 
-/* Writes the reply that is in the pipe, or if that can't be an error. */
+/* Sends the reply that is in the pipe, or an error if that fails. */
 static ssize_t put_piped(struct worker *w)
 {
 	const struct fuse_out_header reply = { sizeof(reply), -EIO, w->header.unique };
@@ -442,7 +453,7 @@ static ssize_t put_piped(struct worker *w)
 	return put;
 }
 
-/* Writes a reply: that of the pipe, if it has all that was announced, or else that of the room. */
+/* Sends a reply: from the pipe if that has all the announced data, and otherwise from the reply buffer. */
 static ssize_t put_reply(struct worker *w, size_t len)
 {
 	const size_t piped = w->piped;
@@ -460,15 +471,15 @@ static ssize_t put_reply(struct worker *w, size_t len)
 	return write(w->fd, w->room, len);
 }
 
-/* Writes a reply. If Linux refuses it, who asked gets EIO, if it still waits, and the others are served. 0, or
- * -1 with errno. */
+/* Sends a reply. If Linux rejects it, the client gets EIO, unless it no longer waits, and the mount goes on.
+ * Returns 0, or -1 with errno. */
 static int put_or_refuse(struct worker *w, const struct fuse_in_header *asked, size_t len)
 {
 	const struct fuse_out_header reply = { sizeof(reply), -EIO, asked->unique };
 
 	if (put_reply(w, len) >= 0)
 		return 0;
-	/* ENOENT: who asked no longer waits. ENODEV: nobody does. */
+	/* ENOENT means that the client no longer waits, and ENODEV that the file system is unmounted. */
 	if (errno == ENOENT || errno == ENODEV)
 		return 0;
 	transport_say(w->of->by->program, "the kernel refused the reply to opcode %u: %s",
@@ -476,7 +487,7 @@ static int put_or_refuse(struct worker *w, const struct fuse_in_header *asked, s
 	return write(w->fd, &reply, sizeof(reply)) < 0 && errno != ENOENT && errno != ENODEV ? -1 : 0;
 }
 
-/* Reads a request, and looks before whether one comes soon. */
+/* Reads a request, and may poll for it first. */
 static ssize_t read_alone(struct worker *w)
 {
 	const uint64_t from = now();
@@ -500,8 +511,8 @@ static ssize_t read_alone(struct worker *w)
 	return got;
 }
 
-/* Whether a worker that reads is alone, and may look before. Unless it does, it is only seen now and
- * then how long a request took to come. */
+/* Whether a worker that reads is alone, so that it may poll. Unless it has short waits, it measures only some
+ * of its waits. */
 static int may_look(const struct worker *w)
 {
 	const struct device *d = w->of;
@@ -510,7 +521,7 @@ static int may_look(const struct worker *w)
 	       (w->short_waits || atomic_load(&d->taken) % LOOK_EACH == 0);
 }
 
-/* Reads a request, and counts those that read. */
+/* Reads a request, and counts the readers. */
 static ssize_t read_request(struct worker *w)
 {
 	struct device *d = w->of;
@@ -528,8 +539,8 @@ static ssize_t read_request(struct worker *w)
 	return got;
 }
 
-/* Data, names and attributes have as much room as is asked for, others less than a page. (What comes after
- * may keep as much memory as the longest room.) */
+/* Data, names and attributes have a reply buffer of the requested size, other replies less than a page,
+ * because `serve` may allocate and keep as much memory as its reply buffer has. */
 size_t fuse_device_room(const struct fuse_in_header *asked, const void *record, size_t len)
 {
 	struct fuse_read_in read;
@@ -552,7 +563,7 @@ size_t fuse_device_room(const struct fuse_in_header *asked, const void *record, 
 	}
 }
 
-/* Whether a descriptor is that of a device. (A socket would take pages for messages, and has no rings.) */
+/* Whether a descriptor is a device. (A socket would take up pages for messages, and has no rings.) */
 static int is_device(int fd)
 {
 	struct stat seen;
@@ -560,7 +571,8 @@ static int is_device(int fd)
 	return !fstat(fd, &seen) && S_ISCHR(seen.st_mode);
 }
 
-/* The rings for this device, if there can be any. (Who made them before can make no others.) */
+/* Returns the rings for this device, or NULL. A program that has prepared rings is in a sandbox, and cannot
+ * make others. */
 static struct fuse_rings *take_rings(struct device *d, int fd)
 {
 	struct fuse_rings *made = d->made;
@@ -569,8 +581,8 @@ static struct fuse_rings *take_rings(struct device *d, int fd)
 	return d->prepared.rings ? made : fuse_ring_make(d->by, fd, fuse_ring_count());
 }
 
-/* Starts the workers over io_uring, if they can be and the reply to INIT can say so. That was answered with this
- * outcome, and with that many bytes; `offered`: by whether it offers io_uring. */
+/* Starts the workers for io_uring if possible, and enables it in the reply to INIT, which has `len` bytes.
+ * `code` is the result of INIT, and `offered` says whether its request has the flag of io_uring. */
 static void start_rings(struct worker *w, int offered, int32_t code, size_t len)
 {
 	struct device *d = w->of;
@@ -591,14 +603,14 @@ static void start_rings(struct worker *w, int offered, int32_t code, size_t len)
 			      "warning: io_uring is not available: falling back to read(2) and write(2)");
 }
 
-/* What is kept of a request that is answered later. */
+/* A copy of the request's data, for a request that is completed later. */
 struct kept {
 	const nizwarf_transport *by;
 	int fd;
 	struct fuse_in_header asked;
 };
 
-/* Completes it. (Linux has no reply to a request that was interrupted before it was read, and that is gone: ENOENT.) */
+/* Completes such a request. ENOENT means that the request was interrupted and no longer exists. */
 static void send_kept(void *about, int32_t code, const void *reply, size_t len)
 {
 	const struct kept *kept = about;
@@ -617,12 +629,12 @@ static void send_kept(void *about, int32_t code, const void *reply, size_t len)
 		say(kept->by, "write to /dev/fuse");
 }
 
-/* Hands a request to `serve`, which may keep it. Answers whether it does. */
+/* Passes a request to `serve`, which may keep it. Returns whether it was kept. */
 static int ask(struct worker *w, const struct fuse_in_header *asked, const struct iovec *request,
 	       const struct iovec *room, int32_t *code, size_t *len)
 {
 	struct device *d = w->of;
-	/* (a request is answered by the descriptor that it was read by) */
+	/* A request must be completed by the descriptor that has read it. */
 	const struct kept kept = { d->by, w->fd, *asked };
 	struct later_source source = {
 		.list = &d->later, .send = send_kept, .about = &kept, .size = sizeof(kept)
@@ -634,8 +646,8 @@ static int ask(struct worker *w, const struct fuse_in_header *asked, const struc
 	return later_keeps(&source, *code);
 }
 
-/* Lets notices be sent to `device` from now on, or to none if it is -1. Returns -1 if after a second a notice is still
- * being sent, because the kernel waits for a request while it handles it. */
+/* Lets notices be sent to `device` from now on, or to none if it is -1. Returns -1 if a notice is still being
+ * sent after a second, because the kernel waits for a request while it handles the notice. */
 static int let_notify(const nizwarf_transport *by, int device)
 {
 	nizwarf_fuse_notices *const notices = by->notices;
@@ -654,9 +666,9 @@ static int let_notify(const nizwarf_transport *by, int device)
 	return error ? -1 : 0;
 }
 
-/* The lock is not held during writev(2), so that no notice waits for another. Otherwise a worker could wait with its
- * notice for one that waits in the kernel for a request, which only this worker would serve: for ever, because that
- * wait cannot be killed. `senders` keeps the device open meanwhile. */
+/* The lock is not held during writev(2), so that no notice waits for another. Otherwise a worker could wait
+ * with its notice for one that waits in the kernel for a request, which only this worker would serve: for
+ * ever, because that wait cannot be killed. `senders` keeps the device open meanwhile. */
 int nizwarf_fuse_notify(nizwarf_fuse_notices *notices, const void *notice, size_t len, const void *data,
 			size_t data_len)
 {
@@ -678,14 +690,14 @@ int nizwarf_fuse_notify(nizwarf_fuse_notices *notices, const void *notice, size_
 	return error == ENODEV ? ENOTCONN : error;
 }
 
-/* Whether a reading tells that it was unmounted. (ECONNABORTED: just when a request was taken, which is not answered
- * then; or, if that was agreed on, after an abort.) */
+/* Whether an error of read(2) means that the file system was unmounted. ECONNABORTED comes if that happens
+ * while a request is taken, which then needs no reply, or after an abort, if INIT has enabled that. */
 static int is_end(int error)
 {
 	return error == ENODEV || error == ECONNABORTED;
 }
 
-/* Takes a request and answers it. `*opcode` is what was asked, 0 if nothing was. */
+/* Reads a request and serves it. `*opcode` is that of the request, or 0 if there was none. */
 static enum outcome serve_one(struct worker *w, uint32_t *opcode)
 {
 	const ssize_t got = read_request(w);
@@ -700,7 +712,7 @@ static enum outcome serve_one(struct worker *w, uint32_t *opcode)
 	*opcode = 0;
 	if (got == 0 || (got < 0 && is_end(errno)))
 		return ENDED;
-	/* ENOENT: who asked has been interrupted before it was read. */
+	/* ENOENT means that the request was interrupted before it was read. */
 	if (got < 0)
 		return errno == EAGAIN || errno == EINTR || errno == ENOENT ?
 			       SERVED :
@@ -714,7 +726,7 @@ static enum outcome serve_one(struct worker *w, uint32_t *opcode)
 	offered = asked.opcode == FUSE_INIT && by->io_uring && fuse_ring_is_offered(w->request, (size_t)got);
 	transport_withhold(by, w->request, (size_t)got);
 	room.iov_len = fuse_device_room(&asked, w->request + sizeof(asked), (size_t)got - sizeof(asked));
-	/* (the data of a READ begin at a page, as reading past the host's cache wants) */
+	/* The data of a READ begin at a page, because a read with O_DIRECT may require that. */
 	room.iov_base = w->reply = room.iov_len > PAGE || asked.opcode == FUSE_READ ? w->room : w->page;
 	call_if_late(w, &asked, room.iov_len);
 	w->header.unique = asked.unique;
@@ -741,7 +753,8 @@ static enum outcome serve_one(struct worker *w, uint32_t *opcode)
 
 static void *run(void *given);
 
-/* Starts a worker over a descriptor, which is its own then. If that is below 0, errno says why. */
+/* Starts a worker for a descriptor, which then belongs to it. If the descriptor is negative, errno has the
+ * reason. */
 static int start(struct device *d, unsigned number, int fd)
 {
 	const int error = errno;
@@ -773,7 +786,7 @@ static int start(struct device *d, unsigned number, int fd)
 	return -1;
 }
 
-/* Opens /dev/fuse anew, of which `first` is a descriptor. */
+/* Opens /dev/fuse again. `first` is a descriptor of it. */
 static int open_anew(const struct device *d, int first)
 {
 	char name[16];
@@ -784,7 +797,8 @@ static int open_anew(const struct device *d, int first)
 	return openat(d->prepared.descriptors, name, O_RDWR | O_CLOEXEC);
 }
 
-/* Starts the other workers. One that can't be cloned, as a socket, is read by all. */
+/* Starts the other workers. If a descriptor cannot be cloned, because it is a socket, all workers read from
+ * it. */
 static void start_others(struct device *d)
 {
 	const uint32_t first = (uint32_t)d->worker[0].fd;
@@ -803,7 +817,7 @@ static void start_others(struct device *d)
 	}
 }
 
-/* Once the first worker has answered INIT: the others serve too, if there are any. */
+/* Starts the other workers after INIT was served, or those of io_uring. */
 static void begin_others(struct device *d)
 {
 	struct fuse_rings *rings = atomic_load(&d->rings);
@@ -817,7 +831,7 @@ static void begin_others(struct device *d)
 	fuse_ring_begin(rings);
 }
 
-/* Answers what waits to be read beside io_uring. */
+/* Serves the requests that wait to be read beside io_uring. */
 static enum outcome serve_waiting(struct device *d)
 {
 	enum outcome outcome;
@@ -839,8 +853,8 @@ void fuse_device_drain(struct device *of)
 	tell(of, of->over);
 }
 
-/* Waits until something is to be read beside io_uring, and answers it. That are FORGETs for the most part, of
- * which each would wake a worker that waits for the next. So this one lets some gather. */
+/* Waits for requests that are read beside io_uring, and serves them. Most are FORGETs, each of which would
+ * wake a worker that waits for the next one. So this worker lets some gather first. */
 static enum outcome serve_beside(struct device *d)
 {
 	const struct timespec pause = { 0, GATHER };
@@ -851,8 +865,8 @@ static enum outcome serve_beside(struct device *d)
 	return serve_waiting(d);
 }
 
-/* A worker, from its begin to its end. The first one serves INIT alone, and the others wait for what
- * that agreed on. */
+/* The thread of a worker. The first worker serves INIT before the others start, which then rest until they
+ * are called. */
 static void *run(void *given)
 {
 	struct worker *w = given;
@@ -892,7 +906,7 @@ int fuse_device_joins(pthread_t thread)
 	return 0;
 }
 
-/* Whether a request is being answered. */
+/* Whether a request is being served. */
 static int is_answering(struct device *d)
 {
 	for (int i = 0; i < NIZWARF_MAX_WORKERS; i++)
@@ -901,8 +915,8 @@ static int is_answering(struct device *d)
 	return 0;
 }
 
-/* Whether what is to end is waited for no longer, since this time. (Where no request is, a busy machine has not let it
- * run.) */
+/* Whether the end has waited long enough since this time. It waits longer for a worker without a request,
+ * because only a busy machine delays that. */
 static int was_awaited(struct device *d, uint64_t since)
 {
 	const uint64_t most = is_answering(d) ? MOST_JOIN : MOST_IDLE;
@@ -910,7 +924,8 @@ static int was_awaited(struct device *d, uint64_t since)
 	return now() - since > most * 1000000;
 }
 
-/* Ends a worker. -1: it waits for something else, and what it uses is left. */
+/* Joins a worker and frees its memory. Returns -1 if it is still blocked, and then frees nothing, because the
+ * worker may use it. */
 static int end(struct worker *w, uint64_t since)
 {
 	const struct timespec pause = { 0, 5000000 };
@@ -927,21 +942,23 @@ static int end(struct worker *w, uint64_t since)
 	return 0;
 }
 
-/* Does nothing: but without SA_RESTART a call that waits comes back with EINTR, so that its thread sees
- * that it is to end. */
+/* Does nothing. Because it is installed without SA_RESTART, a blocked call fails with EINTR, so that its
+ * thread checks whether it must end. */
 static void interrupted(int number)
 {
 	(void)number;
 }
 
-/* What the calling thread saw when it looked last: how many requests were taken, at how many ticks in
- * turn some waited, for how many milliseconds it was calm and nothing came; and the tick since then. */
+/* The state of the calling thread's last check: the number of requests taken, the number of ticks in turn
+ * with a waiting request, the calm time and the time without requests in milliseconds, and the tick since
+ * then. */
 struct seen {
 	unsigned long taken;
 	unsigned waited, calm, quiet, tick;
 };
 
-/* Calls one that rests if requests wait and no one reads; or one less is wanted, if it is calm. */
+/* Calls a resting worker if requests wait and nobody reads, or reduces the number of wanted workers if it is
+ * calm. */
 static void look(struct device *d, struct seen *seen, unsigned long taken)
 {
 	const int is_late = !atomic_load(&d->readers) && is_waited_for(&d->worker[0]);
@@ -956,12 +973,12 @@ static void look(struct device *d, struct seen *seen, unsigned long taken)
 	}
 }
 
-/* How long to wait for the next tick, in milliseconds; -1: until somebody is busy. */
+/* Returns how long to wait for the next tick, in milliseconds, or -1 to wait until a worker is busy. */
 static int next_tick(struct device *d, struct seen *seen)
 {
 	const unsigned long now = atomic_load(&d->taken);
 
-	/* (over io_uring none rests that could be called, and the first one, which waits in poll(2), never reads) */
+	/* With io_uring no worker rests, and the first one, which waits in poll(2), never reads. */
 	if (d->by->workers == 1 || atomic_load(&d->rings))
 		return -1;
 	look(d, seen, now);
@@ -971,7 +988,7 @@ static int next_tick(struct device *d, struct seen *seen)
 	if (seen->quiet < QUIET)
 		return (int)seen->tick;
 	want_less(d, 1);
-	/* A worker that takes a request from now on sees this, or it is seen here that it did. */
+	/* Either a worker that takes a request from now on sees this, or the check below sees the request. */
 	atomic_store(&d->sleeps, 1);
 	if (atomic_load(&d->taken) == now && atomic_load(&d->readers))
 		return -1;
@@ -980,15 +997,17 @@ static int next_tick(struct device *d, struct seen *seen)
 	return (int)seen->tick;
 }
 
-/* What became of requests since a first signal; when it was looked last, and for how long it was waited: on a busy
- * machine, where this thread is late, others are too. */
+/* The state of requests after a first signal: the time of the signal, that of the last check, and how long
+ * the checks have waited. Each check adds at most twice LOOK_TICK, because on a busy machine, where this
+ * thread is late, other threads are late too. */
 struct asked {
 	uint64_t at, last, waited;
 	int looks;
 	unsigned turns[NIZWARF_MAX_WORKERS];
 };
 
-/* Unmounts. (What is still to be written may go through a request that waits.) */
+/* Unmounts. This needs a thread of its own, because data that are still to be written may wait for a
+ * request. */
 static void *unmount(void *given)
 {
 	struct device *d = given;
@@ -1000,7 +1019,7 @@ static void *unmount(void *given)
 	return NULL;
 }
 
-/* At a first signal: unmounts, if nobody else does. */
+/* Begins to unmount after a first signal, unless another process does. */
 static void begin_end(struct device *d, struct asked *asked)
 {
 	asked->at = asked->last = now();
@@ -1011,8 +1030,8 @@ static void begin_end(struct device *d, struct asked *asked)
 		unmount(d);
 }
 
-/* Whether a request has waited since it was looked first. It is looked for a while alone: what comes later
- * ends with its user. */
+/* Whether a request has been blocked since the first check. There is only one such check, because later
+ * requests end with their clients. */
 static int is_stuck(struct device *d, struct asked *asked)
 {
 	const uint64_t at = now(), more = (at - asked->last) / 1000, most = UINT64_C(2000) * LOOK_TICK;
@@ -1033,7 +1052,7 @@ static int is_stuck(struct device *d, struct asked *asked)
 	return 0;
 }
 
-/* Takes a signal. Whether it ends all, and not only the mount. */
+/* Reads a signal. Returns whether it ends the process, and not only the mount. */
 static int is_last(int signals, struct device *d, const struct asked *asked)
 {
 	struct signalfd_siginfo said;
@@ -1044,7 +1063,7 @@ static int is_last(int signals, struct device *d, const struct asked *asked)
 	       !(d->folder || (said.ssi_code == SI_QUEUE && said.ssi_int == NIZWARF_FUSE_UNMOUNTED));
 }
 
-/* Waits until a worker has ended, or signals want an end. */
+/* Waits until a worker has ended, or until a signal ends the process. */
 static void wait_for_end(struct device *d, int signals)
 {
 	struct pollfd wait[] = { { signals, POLLIN, 0 }, { d->over, POLLIN, 0 }, { d->busy, POLLIN, 0 } };
@@ -1076,7 +1095,7 @@ static void wait_for_end(struct device *d, int signals)
 		atomic_store(&d->failed, 1);
 }
 
-/* Blocks the signals that end it, and gives a descriptor of them. */
+/* Blocks the signals that end the process, and returns a signalfd for them. */
 static int await_signals(void)
 {
 	const struct sigaction interrupts = { .sa_handler = interrupted };
@@ -1087,7 +1106,7 @@ static int await_signals(void)
 	return signalfd(-1, &ending, SFD_CLOEXEC);
 }
 
-/* Ends the process, although a worker waits for what does not come. */
+/* Ends the process although a worker is blocked. */
 static _Noreturn void leave(struct device *d)
 {
 	transport_say(d->by->program, "exiting although a %s is still blocked",
@@ -1099,7 +1118,7 @@ static _Noreturn void leave(struct device *d)
 	_exit(atomic_load(&d->failed));
 }
 
-/* Ends the workers, and what unmounts. -1: one waits for something. */
+/* Ends the workers and the thread that unmounts. Returns -1 if one is still blocked. */
 static int end_all(struct device *d)
 {
 	const struct timespec pause = { 0, 5000000 };
@@ -1110,7 +1129,8 @@ static int end_all(struct device *d)
 	atomic_store(&d->stop, 1);
 	pthread_cond_broadcast(&d->call);
 	pthread_mutex_unlock(&d->lock);
-	/* One that doesn't come back may still start others: those it counted have a thread. */
+	/* A first worker that does not return may still start others, but those that it has counted have a
+	 * thread. */
 	left = end(&d->worker[0], since);
 	for (unsigned i = 1; i <= atomic_load(&d->others); i++)
 		left |= end(&d->worker[i], since);
@@ -1122,19 +1142,19 @@ static int end_all(struct device *d)
 	return left;
 }
 
-/* Serves by workers, until they have ended. Answers whether they failed. */
+/* Serves until the workers have ended. Returns whether they failed. */
 static int serve(struct device *d, int device, int signals)
 {
 	if (start(d, 0, device))
 		return 1;
 	wait_for_end(d, signals);
-	/* (a device that is a socket takes a reply only as soon as its other end likes) */
+	/* If the device is a socket, sending a reply may take as long as its peer wants. */
 	if (later_end(&d->later, MOST_LATE) || let_notify(d->by, -1) || end_all(d))
 		leave(d);
 	return atomic_load(&d->failed);
 }
 
-/* Those below 0 were never open. */
+/* Descriptors below 0 were never open. */
 static void close_each(const int *fds, size_t count)
 {
 	for (size_t i = 0; i < count; i++)
@@ -1177,7 +1197,7 @@ int fuse_device_serve(const nizwarf_transport *by, const struct fuse_prepared *p
 	return is_wrong;
 }
 
-/* (a struct of an earlier header has fewer fields: the others are 0) */
+/* If the struct is of an earlier header, the fields that it lacks are 0. */
 int nizwarf_fuse_serve(const nizwarf_transport *by, int device, const char *folder)
 {
 	nizwarf_transport own = { .size = sizeof(own) };
