@@ -1,4 +1,4 @@
-/* A program that is a table of functions: nizwarf_fuse_main of nizwarf_fuse.h. */
+/* Runs a file system that is a table of functions: nizwarf_fuse_main() of nizwarf_fuse.h. */
 #define _GNU_SOURCE
 #include <fcntl.h>
 #include <getopt.h>
@@ -13,7 +13,7 @@
 #include "say.h"
 #include "transport.h"
 
-/* Directory entries of a listing that are in one reply; Linux reads again for the others. */
+/* The number of directory entries in one reply, after which Linux reads again. */
 enum { ITEMS = 64 };
 enum { SUCCESS = 0, FAILURE = 1, USAGE = 2, SERVES = -1 };
 
@@ -21,9 +21,9 @@ struct program {
 	nizwarf_ops ops;
 	void *user;
 	nizwarf_session session;
-	/* Each worker's own. */
+	/* Each worker needs scratch memory of its own. */
 	nizwarf_scratch scratch[NIZWARF_MAX_WORKERS];
-	/* What the command line says; `fd` is -1 without --fd. */
+	/* The options and arguments. `fd` is -1 without --fd. */
 	unsigned workers;
 	int fd, has_mount_options;
 	const char *mountpoint, *source;
@@ -42,7 +42,7 @@ static const char usage[] =
 	"  -h, --help     print this help\n"
 	"  -V, --version  print the version of the library\n";
 
-/* Says what is wrong with the command line. */
+/* Prints why the command line is invalid, and returns USAGE. */
 static int refuse(const char *what, const char *given)
 {
 	fprintf(stderr, "%s: %s%s%s\nTry '%s --help' for more information.\n", program_invocation_short_name,
@@ -50,7 +50,7 @@ static int refuse(const char *what, const char *given)
 	return USAGE;
 }
 
-/* A number in decimal, from the least to the most. -1: it is none. */
+/* Parses a decimal number from `least` to `most`. Returns -1 if the text is invalid. */
 static int number(const char *text, long least, long most)
 {
 	char *end;
@@ -120,13 +120,13 @@ static int take_option(struct program *p, int option)
 			      version >> 8 & 255, version & 255) < 0 ||
 		       fflush(stdout) != 0;
 	default:
-		/* (getopt has said what is wrong) */
+		/* getopt_long() has printed the reason. */
 		fprintf(stderr, "Try '%s --help' for more information.\n", program_invocation_short_name);
 		return USAGE;
 	}
 }
 
-/* Takes the command line: SERVES, or the status to end with. */
+/* Parses the command line. Returns SERVES, or the exit status. */
 static int take_words(struct program *p, int argc, char **argv)
 {
 	static const struct option known[] = { { "workers", required_argument, NULL, 'w' },
@@ -136,7 +136,7 @@ static int take_words(struct program *p, int argc, char **argv)
 					       { NULL, 0, NULL, 0 } };
 	int option, status = SERVES;
 
-	/* (the program may have used getopt before) */
+	/* The program may have used getopt() before, so scanning must begin anew. */
 	optind = 0;
 	while (status == SERVES && (option = getopt_long(argc, argv, "o:fhV", known, NULL)) != -1)
 		status = take_option(p, option);
@@ -154,7 +154,7 @@ static int take_words(struct program *p, int argc, char **argv)
 	return SERVES;
 }
 
-/* The table's bad_error, if it has none. */
+/* Is used if the table has no bad_error. It reports the first error only. */
 static void report(void *user, const nizwarf_call *call, int error)
 {
 	static atomic_flag reported = ATOMIC_FLAG_INIT;
@@ -173,7 +173,7 @@ static int32_t serve(void *user, unsigned worker, const struct iovec *request, s
 	struct program *p = user;
 	nizwarf_dirent items[ITEMS];
 
-	/* (without io_uring both are in one segment) */
+	/* Without io_uring the request and the reply buffer are one segment each. */
 	(void)request_count, (void)reply_count;
 	return nizwarf_serve_ops(&p->ops, p->user, &p->scratch[worker], &p->session, request->iov_base,
 				 request->iov_len, reply->iov_base, reply->iov_len, items, ITEMS, reply_len);
@@ -207,7 +207,7 @@ int nizwarf_fuse_main(int argc, char **argv, const nizwarf_ops *ops, void *user)
 
 	if (status != SERVES)
 		return status;
-	/* (so no file that is opened here has the number of standard error) */
+	/* Standard streams that are closed are opened here, so that no other file gets their descriptors. */
 	do
 		null = open("/dev/null", O_RDWR);
 	while (null >= 0 && null <= STDERR_FILENO);

@@ -1,9 +1,10 @@
-/* Mounts and unmounts over /dev/fuse: nizwarf_fuse.h. It is known where a mount was made, so that what is
- * unmounted is what was mounted. Who may not mount does so by fusermount3: fusermount.h.
+/* Mounts and unmounts over /dev/fuse: nizwarf_fuse.h. Users who may not call mount(2) mount by fusermount3:
+ * fusermount.h.
  *
- * Who may write to a folder above could otherwise rename it meanwhile, put a link in its place, or mount
- * something else there, and have a program of root's unmount that. A process makes one mount, and `made`
- * does not change after that: so any thread may unmount. */
+ * The place of the mount is remembered, so that this mount is unmounted and no other. Otherwise a user with
+ * write permission for a parent directory could rename it meanwhile, put a link in its place, or mount
+ * something else there, so that a program of root would unmount that. A process makes one mount, and `made`
+ * does not change afterwards, so any thread may unmount. */
 #define _GNU_SOURCE
 #include <errno.h>
 #include <fcntl.h>
@@ -18,14 +19,14 @@
 #include "say.h"
 #include "transport.h"
 
-/* Says on standard error what failed, and why by errno, and answers -1. */
+/* Prints what failed and why, by errno, and returns -1. */
 static int say(const nizwarf_transport *by, const char *action, const char *path)
 {
 	transport_say(by->program, "cannot %s '%s': %s", action, path, strerror(errno));
 	return -1;
 }
 
-/* Says the same of a mount. If an argument is invalid, that may be an option. */
+/* The same for a mount. EINVAL may be caused by an option, so the message then contains the options. */
 static int say_mount(const nizwarf_transport *by, const char *path, const char *options)
 {
 	if (errno != EINVAL || !options || !*options)
@@ -35,9 +36,10 @@ static int say_mount(const nizwarf_transport *by, const char *path, const char *
 	return -1;
 }
 
-/* Where the mount was made: the directory above, wherever that is now, the name there, and the numbers that
- * mounts have there and above; 0: unknown. The directory is open until the process ends. It is -1 before,
- * and where it can't be had, as without /proc. `by_helper`: by fusermount3. */
+/* The place of the mount: its parent directory, even if that was moved, and the name in it; then the IDs of
+ * the mount and of its parent mount, 0 if unknown. The directory stays open until the process ends. It is -1
+ * before the mount, and if it cannot be opened, for example without /proc. `by_helper` means that fusermount3
+ * has mounted. */
 static struct {
 	int directory;
 	char name[NAME_MAX + 1];
@@ -45,8 +47,9 @@ static struct {
 	int by_helper;
 } made = { .directory = -1 };
 
-/* The number of the mount that a path leads to; 0: unknown, as before Linux 5.8. Nobody is asked for it,
- * not even the file system that is mounted there, which may be this one, and would wait for itself. */
+/* Returns the ID of the mount that a path leads to, or 0 if it is unknown, as before Linux 5.8. The flags
+ * ensure that no file system has to reply, because the mounted one may be this one, which would wait for
+ * itself. */
 static uint64_t number_of_mount(int directory, const char *name)
 {
 #ifdef STATX_MNT_ID
@@ -61,7 +64,8 @@ static uint64_t number_of_mount(int directory, const char *name)
 	return 0;
 }
 
-/* The mount point by the directory above, so that nobody's link leads elsewhere; the folder, if there is none. */
+/* Returns the mount point by its parent directory, so that no link leads elsewhere, or `folder` if that is
+ * not open. */
 static const char *mount_point(const char *folder, char *place, size_t size)
 {
 	if (made.directory < 0)
@@ -70,22 +74,23 @@ static const char *mount_point(const char *folder, char *place, size_t size)
 	return place;
 }
 
-/* Looks where a mount is about to be made. Where it can't be known, the path that was given is used. */
+/* Opens the parent directory of the mount point. If that fails, the path of the caller is used instead. */
 static void find_mount_point(const char *folder)
 {
 	char path[PATH_MAX], *name;
 
 	if (!realpath(folder, path) || access("/proc/self/fd", F_OK))
 		return;
-	/* (the path is resolved, and so has a slash and no link; that of the root alone has no name) */
+	/* realpath() has resolved the path, so it has a slash and no links. Only the root directory has no
+	 * name. */
 	name = strrchr(path, '/');
 	snprintf(made.name, sizeof(made.name), "%s", name[1] ? name + 1 : ".");
 	*name = 0;
 	made.directory = open(*path ? path : "/", O_PATH | O_DIRECTORY | O_CLOEXEC);
 }
 
-/* Whether what is mounted there is what was made, as far as it is known. 0: nothing is; -1: it is another
- * one, and said so. */
+/* Returns 1 if the file system that is mounted there is the one that was made, as far as that is known, 0 if
+ * there is no mount, and -1 after printing an error if it is another one. */
 static int is_there(const nizwarf_transport *by, const char *folder)
 {
 	const uint64_t there = made.own ? number_of_mount(made.directory, made.name) : 0;
@@ -98,15 +103,16 @@ static int is_there(const nizwarf_transport *by, const char *folder)
 	return -1;
 }
 
-/* Unmounts by a path, if something is mounted there still. 0, or -1 with errno: EBUSY, if it is in use; EPERM, if this
- * process may not. */
+/* Unmounts by a path, unless it is unmounted already. Returns 0, or -1 with errno: EBUSY if it is in use,
+ * EPERM if this process lacks permission. */
 static int unmount(const char *point, int flags)
 {
-	/* (EINVAL, and of a directory that was removed ENOENT: another one has unmounted it meanwhile) */
+	/* EINVAL, and ENOENT for a directory that was removed, mean that another process has unmounted it
+	 * meanwhile. */
 	return umount2(point, flags | UMOUNT_NOFOLLOW) && errno != EINVAL && errno != ENOENT ? -1 : 0;
 }
 
-/* The mount point, for fusermount3. */
+/* Returns the mount point for fusermount3. */
 static struct mount_point helped(const char *program, const char *folder)
 {
 	return (struct mount_point){ program, folder, made.directory,
@@ -172,7 +178,8 @@ int nizwarf_fuse_open(const nizwarf_transport *by)
 	return device < 0 ? say(by, "open", "/dev/fuse") : device;
 }
 
-/* Looks where the mount is about to be made, and blocks signals, so that one can't end the process and leave it. */
+/* Finds the place of the mount, and blocks signals, so that none can end the process and leave a mount
+ * without a server. */
 static void prepare(const char *folder)
 {
 	find_mount_point(folder);
@@ -181,9 +188,9 @@ static void prepare(const char *folder)
 	transport_hold_signals(SIG_BLOCK);
 }
 
-/* Mounts by mount(2): 0, or -1 with errno. The options name the device by its number; `rootmode` is that the root is a
- * directory, in octal; and the user and group are those who may use the mount where allow_other is not among the
- * options. The type is shown in /proc/mounts. */
+/* Mounts by mount(2). Returns 0, or -1 with errno. The option `fd` is the number of the device, and
+ * `rootmode` says in octal that the root is a directory. Unless the options have allow_other, only the given
+ * user and group may use the mount. The type is shown in /proc/mounts. */
 static int mount_device(const nizwarf_transport *by, int device, const char *source, const char *folder,
 			unsigned long flags, const char *options)
 {
@@ -199,7 +206,7 @@ static int mount_device(const nizwarf_transport *by, int device, const char *sou
 		       mount(source, mount_point(folder, place, sizeof(place)), type, flags, words);
 }
 
-/* What was mounted is known from now on. */
+/* Remembers the mount for nizwarf_fuse_unmount(). */
 static void note(int by_helper)
 {
 	made.by_helper = by_helper;
