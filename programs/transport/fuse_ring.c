@@ -1,21 +1,23 @@
-/* Requests of /dev/fuse over io_uring: fuse_ring.h. Linux has it from 6.14 on, where root set
+/* Requests of /dev/fuse over io_uring: fuse_ring.h. Linux supports it since 6.14, if root has enabled it by
  * /sys/module/fuse/parameters/enable_uring.
  *
- * The kernel has a queue for each processor, of the requests that are made there. Each queue has workers here, of which
- * each has a ring and an entry, which is memory for one request and its reply, and stays on the processor of the queue.
- * So who asks and who answers are on one processor, and no other one has to be woken. The kernel takes the entry that
- * came back last, and so one worker of a queue, unless that has a request.
+ * The kernel has a queue for each processor, with the requests that are made there. Each queue has workers
+ * here. A worker has a ring and an entry, which is memory for one request and its reply, and it stays on the
+ * processor of the queue. So client and worker run on the same processor, and no other one has to be woken.
+ * The kernel uses the entry that was returned last, and so one worker of a queue, unless that has a request.
  *
- * A command hands an entry to the kernel, and completes once a request is in it. The next one hands it
- * back, with the reply. One system call does that, and waits for the next request.
+ * A command passes an entry to the kernel, and completes once the kernel has put a request into it. The next
+ * command returns the entry with the reply. One system call does this and waits for the next request.
  *
- * A request that is kept keeps its entry, in which its reply is put by whoever completes it. The ring is its worker's
- * alone, so that is told by an event to hand the entry back. A worker that has no other entry makes one. But the kernel
- * takes what waits in a queue only when an entry comes back, and gives it to no new one. So the last worker of a queue
- * begins with as many more entries as may be kept, and one of the queue's is always left that comes back by itself.
+ * A request that is kept also keeps its entry, into which its reply is copied by the thread that completes
+ * it. Because only its worker may use the ring, that thread wakes the worker by an event, and the worker
+ * returns the entry. A worker without another entry makes one. But the kernel takes the requests that wait in
+ * a queue only when an entry is returned, and gives none to a new entry. So the last worker of a queue begins
+ * with as many additional entries as may be kept, and there is always an entry of the queue that is returned
+ * without waiting.
  *
- * The kernel reads ahead of one who reads many data: then both have work at once. So a worker leaves its
- * processor as long as that goes on, and there alone. */
+ * The kernel reads ahead for a client that reads large data, so that both have work at once. So a worker
+ * leaves its processor while that happens on this processor only. */
 #define _GNU_SOURCE
 #include <errno.h>
 #include <fcntl.h>
@@ -35,8 +37,8 @@
 
 enum { REGISTER = 1, COMMIT_AND_FETCH = 2 };
 
-/* Where a request and its reply are: the header of either, the record of the request, and what is told of
- * the rest, which is in other memory. */
+/* The memory of an entry: the header of the request or of the reply, the record of the request, and the
+ * description of the payload, which is in other memory. */
 struct header {
 	unsigned char in_out[128], record[128];
 	uint64_t flags, commit;
@@ -45,24 +47,25 @@ struct header {
 	uint64_t reserved;
 };
 
-/* What a command has of its own, after the fields of others. */
+/* The fields of a command that are specific to FUSE, after the general ones. */
 struct command {
 	uint64_t flags, commit;
 	uint16_t queue;
 	uint8_t padding[6];
 };
-/* (struct fuse_uring_req_header and struct fuse_uring_cmd_req of linux/fuse.h, which older headers lack) */
+/* These are struct fuse_uring_req_header and struct fuse_uring_cmd_req of linux/fuse.h, which older headers
+ * lack. */
 _Static_assert(sizeof(struct header) == 288, "a header is as Linux has it");
 _Static_assert(sizeof(struct command) == 24 && sizeof(struct command) <= URING_OWN,
 	       "what a command has of its own is as Linux has it, and fits");
 
 enum { PAGE = 4096, HEAD = sizeof(struct fuse_out_header) };
-/* How many bytes are many data, and how many requests in turn for such, more than others, let a worker leave
- * its processor. */
+/* The number of bytes from which on data count as large (BULK), and by how many such requests must outnumber
+ * the others before a worker leaves its processor (BULKS). */
 enum { BULK = 1 << 16, BULKS = 8 };
 
-/* A header, and after it, a page from its beginning, the payload. One whose request is kept belongs to who completes
- * that, and then, in a list, to its worker. */
+/* A header, and one page after its beginning the payload. If the request is kept, the entry belongs to the
+ * thread that completes it, and then, in a list, to the worker again. */
 struct entry {
 	struct worker *of;
 	struct header *header;
@@ -77,10 +80,12 @@ struct worker {
 	int roams, has_ended;
 	pthread_t thread;
 	struct uring ring;
-	/* How many entries there may be, how many there are, and of how many the request isn't kept. */
+	/* The largest number of entries, their current number, and the number of those whose requests are not
+	 * kept. */
 	unsigned most, count, left;
 	struct entry *entries;
-	/* Those whose requests were kept, and have a reply now: whoever completes one adds it, under the lock. */
+	/* The entries of kept requests that have a reply now. The thread that completes a request adds its
+	 * entry, under the lock. */
 	pthread_mutex_t lock;
 	struct entry *completed;
 };
@@ -90,15 +95,16 @@ struct fuse_rings {
 	struct device *of;
 	int device, over;
 	unsigned queues, workers, started;
-	/* Of each queue, the requests that are answered later. */
+	/* The requests that are completed later, by queue. */
 	struct later_list *later;
-	/* Where a worker may run that has left its processor. */
+	/* Where a worker may run after it has left its processor. */
 	cpu_set_t anywhere;
 	atomic_int stop, failed;
-	/* The last queue that was asked for many data. */
+	/* The last queue that had a request for large data. */
 	atomic_uint bulky;
-	/* How many workers are ready to begin, or can't be; how many of the last ones have handed their entries over; and
-	 * whether all begin: under the lock, and each change is told. */
+	/* Under the lock: the number of workers that are ready to begin, of those that have failed, and of
+	 * last workers that have passed their entries to the kernel; and whether all may begin. Each change
+	 * is signalled. */
 	pthread_mutex_t lock;
 	pthread_cond_t change;
 	unsigned ready, broken, handed_over;
@@ -106,14 +112,14 @@ struct fuse_rings {
 	struct worker worker[];
 };
 
-/* Says what failed: io_uring gives an error as a number, not by errno. */
+/* Prints an error and returns -1. io_uring returns errors as numbers, not by errno. */
 static int say(const struct fuse_rings *r, int error)
 {
 	transport_say(r->by->program, "io_uring: %s", strerror(error));
 	return -1;
 }
 
-/* Puts a command about an entry into the ring, which has room for one for each. */
+/* Puts a command for an entry into the ring, which has a place for one command for each entry. */
 static void put_command(struct worker *w, const struct entry *e, uint32_t what)
 {
 	const struct command own = { .commit = e->header->commit, .queue = e->queue };
@@ -123,7 +129,8 @@ static void put_command(struct worker *w, const struct entry *e, uint32_t what)
 		  registers ? sizeof(e->memory) / sizeof(*e->memory) : 0, &own, sizeof(own));
 }
 
-/* Has a worker stay on the processors of its queues, or leave them to who asks there, as far as it may run so. */
+/* Moves a worker to the processors of its queues or, with `roams`, to the others, so that the clients have
+ * the former. It uses only processors that the program may use, and all of them if none is left otherwise. */
 static void roam(struct worker *w, int roams)
 {
 	const cpu_set_t *anywhere = &w->of->anywhere;
@@ -140,8 +147,8 @@ static void roam(struct worker *w, int roams)
 	w->roams = roams;
 }
 
-/* Looks whether many data are asked for, and on this processor alone. (Where they are on several, each has
- * work enough.) */
+/* Counts requests for large data on this processor, as long as no other processor has any. If several have,
+ * each has enough work. */
 static void count_bulk(struct worker *w, const struct fuse_in_header *asked, size_t room)
 {
 	if (asked->opcode != FUSE_READ || room < BULK)
@@ -154,14 +161,14 @@ static void count_bulk(struct worker *w, const struct fuse_in_header *asked, siz
 		roam(w, !w->roams);
 }
 
-/* What is kept of a request that is answered later. */
+/* A copy of the request's data, for a request that is completed later. */
 struct kept {
 	struct entry *entry;
 	struct fuse_in_header asked;
 };
 
-/* Completes it, on any thread: the entry goes back by its worker. (The kernel looks at the reply, and completes a
- * request by an error whose reply is wrong.) */
+/* Completes such a request on any thread; its worker returns the entry. The kernel checks the reply, and
+ * completes the request with an error if that is invalid. */
 static void send_kept(void *about, int32_t code, const void *reply, size_t len)
 {
 	const struct kept *kept = about;
@@ -185,7 +192,7 @@ static void send_kept(void *about, int32_t code, const void *reply, size_t len)
 	uring_tell(&w->ring);
 }
 
-/* Hands back the entries whose requests were kept, and have a reply now. */
+/* Returns the entries of kept requests that have a reply now. */
 static void hand_back(struct worker *w)
 {
 	struct entry *e;
@@ -201,8 +208,8 @@ static void hand_back(struct worker *w)
 	}
 }
 
-/* Hands a request to `serve`, whose reply is in two pieces. Answers the length of the reply, or -1: it is kept, and the
- * entry with it. */
+/* Passes a request to `serve`, with a reply buffer of two segments. Returns the length of the reply, or -1 if
+ * the request is kept, and the entry with it. */
 static ssize_t serve_request(struct worker *w, struct entry *e, const struct fuse_in_header *asked,
 			     size_t record, struct fuse_out_header *reply)
 {
@@ -219,20 +226,22 @@ static ssize_t serve_request(struct worker *w, struct entry *e, const struct fus
 	size_t len = 0;
 	int32_t code;
 
-	/* (there is a page before the payload, of which its header takes the first bytes) */
+	/* The page before the payload begins with the header of the entry, and has space for the request's
+	 * header and record at its end. */
 	memcpy(front, asked, sizeof(*asked));
 	memcpy(front + sizeof(*asked), e->header->record, record);
 	count_bulk(w, asked, rooms[1].iov_len);
 	later_serve(&source);
 	code = fuse_device_ask(w->of->of, w->number, &request, 1, rooms, 2, &len);
 	later_serve(NULL);
-	/* (whatever is answered besides: who completes it may have the entry already) */
+	/* This must be checked before `code`, because the thread that completes the request may use the entry
+	 * already. */
 	if (source.is_kept)
 		return -1;
 	return (ssize_t)(code == NIZWARF_OK ? len : fuse_device_refuse(w->of->by, asked, code, reply));
 }
 
-/* Makes an entry of a queue, if there may be one more. 0, or -1. */
+/* Makes an entry of a queue, unless there are `most`. Returns 0, or -1. */
 static int make_entry(struct worker *w, unsigned queue)
 {
 	struct entry *e = &w->entries[w->count];
@@ -253,16 +262,16 @@ static int make_entry(struct worker *w, unsigned queue)
 	return 0;
 }
 
-/* A request is kept, and its entry with it: another one takes its place, unless the worker has one left. (Where there is
- * no memory others of the queue serve.) */
+/* Makes another entry in place of one whose request is kept, if the worker has no other. Without memory for
+ * it, other workers of the queue serve. */
 static void replace(struct worker *w, unsigned queue)
 {
 	if (!--w->left && !make_entry(w, queue))
 		put_command(w, &w->entries[w->count - 1], REGISTER);
 }
 
-/* Whether the reply to a request may be an error of earlier writes, which Linux reports once for each open file. A
- * synchronous WRITE may have written its data besides. */
+/* Whether the reply to a request may be an error of earlier writes, which Linux reports once for each open
+ * file. A synchronous WRITE may also have written its data. */
 static int reports_once(const struct entry *e, const struct fuse_in_header *asked, size_t record)
 {
 	struct fuse_write_in written = { 0 };
@@ -281,19 +290,20 @@ static int reports_once(const struct entry *e, const struct fuse_in_header *aske
 	}
 }
 
-/* Whether a request that failed with this error may succeed once files were forgotten: for space, a descriptor, or one
- * more file that the client may know. Where ENOSPC is an error of earlier writes it would succeed too, but their data
- * are lost. */
+/* Whether a request that failed with this error may succeed after the FORGETs that wait, because it lacks
+ * space, a descriptor, or one more file that the client may know. If ENOSPC may be an error of earlier
+ * writes, it must not be repeated: that would succeed although their data are lost. */
 static int waits_for_forgets(const struct entry *e, const struct fuse_in_header *asked, size_t record,
 			     int error)
 {
 	return error == EMFILE || error == ENFILE || (error == ENOSPC && !reports_once(e, asked, record));
 }
 
-/* Answers the request in an entry, or keeps both. 0, or -1: it said why.
+/* Serves the request in an entry, or keeps both. Returns 0, or -1 after printing an error.
  *
- * What a file that was removed takes is free once it was forgotten, which comes by read(2), and who has
- * removed it counts on that. So that is read before space is told, and before it is said that there is none. */
+ * The space of a removed file is free only after its FORGET, which comes by read(2), and a client that has
+ * removed it relies on that. So FORGETs are read before the free space is reported, and before a request
+ * fails for lack of space. */
 static int answer(struct worker *w, struct entry *e)
 {
 	struct header *h = e->header;
@@ -319,7 +329,7 @@ static int answer(struct worker *w, struct entry *e)
 		return 0;
 	}
 	if (!len) {
-		/* (the kernel has the entry back by a reply alone) */
+		/* Without a reply the kernel would not get the entry back. */
 		reply = (struct fuse_out_header){ .len = HEAD, .unique = asked.unique };
 		len = HEAD;
 	}
@@ -329,13 +339,13 @@ static int answer(struct worker *w, struct entry *e)
 	return 0;
 }
 
-/* Whether nothing can come any more: it was unmounted. */
+/* Whether this error means that the file system was unmounted, so that no more requests come. */
 static int is_end(int error)
 {
 	return error == ENOTCONN || error == ECONNABORTED || error == ECANCELED;
 }
 
-/* Takes what has come of the event. 0, or -1: it said why. */
+/* Handles a completion of the event. Returns 0, or -1 after printing an error. */
 static int take_event(struct worker *w, const struct io_uring_cqe *done)
 {
 	if (done->res < 0)
@@ -346,7 +356,7 @@ static int take_event(struct worker *w, const struct io_uring_cqe *done)
 	return 0;
 }
 
-/* Answers what has come. 0; 1: it was unmounted; -1: it failed, and said why. */
+/* Handles all completions. Returns 0, 1 if the file system was unmounted, or -1 after printing an error. */
 static int answer_each(struct worker *w)
 {
 	struct io_uring_cqe done;
@@ -365,14 +375,15 @@ static int answer_each(struct worker *w)
 	return 0;
 }
 
-/* Whether a worker is the last of its queues, which has the entries for what is kept. */
+/* Whether a worker is the last one of its queues, which has the additional entries for kept requests. */
 static int is_last(const struct worker *w)
 {
 	return w->number + w->of->queues > w->of->workers;
 }
 
-/* Hands its entries to the kernel. The last workers do before the others: so the kernel takes those of the others
- * first, of which none is after another one of a worker that may be long about a request. */
+/* Passes its entries to the kernel. The last workers must do so first: then the kernel prefers the entries of
+ * the others, which have only one each. So no request is put into a second entry of a worker that is busy
+ * with a long request, while others are free. */
 static int hand_over(struct worker *w)
 {
 	struct fuse_rings *r = w->of;
@@ -393,7 +404,8 @@ static int hand_over(struct worker *w)
 	return error ? say(r, error) : 0;
 }
 
-/* Serves until it is unmounted, or is to stop. 0, or -1: it failed, and said why. */
+/* Serves until the file system is unmounted or the worker must stop. Returns 0, or -1 after printing an
+ * error. */
 static int serve(struct worker *w)
 {
 	int over;
@@ -408,7 +420,7 @@ static int serve(struct worker *w)
 	return over < 0 ? -1 : 0;
 }
 
-/* The entries of each queue that is this worker's. 0, or -1. */
+/* Makes the entries of each queue of this worker. Returns 0, or -1. */
 static int make_entries(struct worker *w)
 {
 	const struct fuse_rings *r = w->of;
@@ -427,7 +439,7 @@ static int make_entries(struct worker *w)
 
 static void free_worker(struct worker *w)
 {
-	/* (what it has of the kernel goes first: that may still write into the entries) */
+	/* The ring must be freed first, because the kernel may write into the entries until then. */
 	uring_free(&w->ring);
 	for (unsigned i = 0; i < w->count; i++)
 		munmap(w->entries[i].header, PAGE + NIZWARF_MAX_PAYLOAD);
@@ -435,7 +447,8 @@ static void free_worker(struct worker *w)
 	pthread_mutex_destroy(&w->lock);
 }
 
-/* Tells that this worker is ready, or can't be, and waits. Answers whether it is to serve. */
+/* Reports whether this worker is ready, and waits until all may begin. Returns whether this one must
+ * serve. */
 static int await_begin(struct worker *w, int is_ready)
 {
 	struct fuse_rings *r = w->of;
@@ -451,8 +464,7 @@ static int await_begin(struct worker *w, int is_ready)
 	return serves;
 }
 
-/* The workers' end, by an error that none of them can answer: who serves the device is told, and ends
- * too. */
+/* Reports a fatal error to the thread that serves the device, which then ends all workers. */
 static void fail(struct fuse_rings *r)
 {
 	const uint64_t one = 1;
@@ -462,7 +474,8 @@ static void fail(struct fuse_rings *r)
 		say(r, errno);
 }
 
-/* A worker's thread. `end` is called by the thread for which `begin` was, and only if that worked. */
+/* The thread of a worker. `end` must be called by the thread that has called `begin`, and only if that
+ * succeeded. */
 static void *run(void *given)
 {
 	struct worker *w = given;
@@ -476,7 +489,7 @@ static void *run(void *given)
 	return NULL;
 }
 
-/* Whether root has let Linux serve so, as far as it says. */
+/* Whether root has enabled io_uring for FUSE. Without the parameter it is assumed. */
 static int may_be(void)
 {
 	FILE *file = fopen("/sys/module/fuse/parameters/enable_uring", "re");
@@ -487,7 +500,7 @@ static int may_be(void)
 	return said == 'Y';
 }
 
-/* How many processors there may be, as the kernel counts its queues; 0: it does not say so. */
+/* Counts the possible processors as the kernel counts its queues. Returns 0 if it does not report them. */
 unsigned fuse_ring_count(void)
 {
 	FILE *file = may_be() ? fopen("/sys/devices/system/cpu/possible", "re") : NULL;
@@ -506,7 +519,7 @@ unsigned fuse_ring_count(void)
 	return count;
 }
 
-/* Waits for all workers: one that doesn't come back leaves none of the others. */
+/* Joins all workers. A worker that does not return must not delay the others. */
 static void join_each(struct fuse_rings *r)
 {
 	const struct timespec pause = { 0, 5000000 };
@@ -523,12 +536,13 @@ static void join_each(struct fuse_rings *r)
 		}
 }
 
-/* Ends in this order: answers that come later, then the workers, then what both used. */
+/* The order is required: first requests that are completed later, then the workers, then the memory that both
+ * use. */
 int fuse_ring_end(struct fuse_rings *r)
 {
 	int failed;
 
-	/* (what is kept has its entries until then) */
+	/* Kept requests use their entries until then. */
 	for (unsigned i = 0; i < r->queues; i++)
 		later_end(&r->later[i], LATER_ALL);
 	pthread_mutex_lock(&r->lock);
@@ -548,7 +562,7 @@ int fuse_ring_end(struct fuse_rings *r)
 	return failed;
 }
 
-/* Makes each worker: 0, or -1. */
+/* Makes all workers. Returns 0, or -1. */
 static int make_each(struct fuse_rings *r)
 {
 	for (unsigned i = 0; i < r->workers; i++) {
@@ -560,8 +574,9 @@ static int make_each(struct fuse_rings *r)
 	return 0;
 }
 
-/* As many to each queue as are wanted, or fewer, so that all together are as many as there may be. The
- * kernel has a queue for each processor, and wants all served: with more of them a worker has several. */
+/* Each queue has as many workers as are wanted, or fewer to keep their total within the limit. The kernel has
+ * a queue for each processor, and requires all of them to be served; so if there are more queues than
+ * workers, a worker has several. */
 unsigned fuse_ring_count_workers(const nizwarf_transport *by, unsigned queues)
 {
 	const unsigned most = NIZWARF_MAX_WORKERS - 1,
@@ -571,7 +586,7 @@ unsigned fuse_ring_count_workers(const nizwarf_transport *by, unsigned queues)
 	return queues < most ? queues * (wanted < fit ? wanted : fit) : most;
 }
 
-/* What they begin with. */
+/* Sets the initial state of the rings and workers. */
 static void set_out(struct fuse_rings *r, const nizwarf_transport *by, int device, unsigned queues)
 {
 	r->by = by;
@@ -616,7 +631,7 @@ struct fuse_rings *fuse_ring_make(const nizwarf_transport *by, int device, unsig
 	return NULL;
 }
 
-/* Starts each worker, and waits until it is ready. Answers whether all are. */
+/* Starts all workers, and waits until they are ready. Returns whether all are. */
 static int start_each(struct fuse_rings *r)
 {
 	int are_ready;
@@ -635,13 +650,13 @@ static int start_each(struct fuse_rings *r)
 	return are_ready;
 }
 
-/* Whether the kernel's INIT offers it: from Linux 6.14 on, and if its switch fuse.enable_uring is on. */
+/* The kernel sets this flag of INIT from Linux 6.14 on, if its parameter fuse.enable_uring is set. */
 int fuse_ring_is_offered(const unsigned char *request, size_t len)
 {
 	return (nizwarf_init_capable_at(request, len) & TRANSPORT_OVER_IO_URING) != 0;
 }
 
-/* Whether the payload is as long as what the kernel may ask for at once. */
+/* Whether the largest payload that the kernel may send or request fits into an entry. */
 static int has_room(const unsigned char *reply, size_t len)
 {
 	const size_t page = (size_t)sysconf(_SC_PAGESIZE), usual_pages = 32;
@@ -656,8 +671,8 @@ static int has_room(const unsigned char *reply, size_t len)
 	return init.max_write <= NIZWARF_MAX_PAYLOAD && pages <= NIZWARF_MAX_PAYLOAD / page;
 }
 
-/* Makes the workers, and adds to the reply of INIT that it is agreed on. -1: the reply stays as it was,
- * and requests come by read(2). */
+/* Starts the workers, and sets the flag in the reply to INIT. If it returns -1, the reply is unchanged, and
+ * requests come by read(2). */
 int fuse_ring_start(struct fuse_rings *r, struct device *of, int over, unsigned char *reply, size_t len)
 {
 	const nizwarf_init_params more = { .want = TRANSPORT_OVER_IO_URING };
@@ -669,7 +684,6 @@ int fuse_ring_start(struct fuse_rings *r, struct device *of, int over, unsigned 
 	return nizwarf_add_to_init_at(reply, len, TRANSPORT_OVER_IO_URING, &more) ? 0 : -1;
 }
 
-/* Lets the workers go, all of which are ready. */
 void fuse_ring_begin(struct fuse_rings *r)
 {
 	pthread_mutex_lock(&r->lock);
