@@ -1,10 +1,10 @@
 /* A ring of io_uring for commands to one device: uring.h.
  *
- * The kernel and this program share two queues of numbers that only grow, modulo 2^32: that of commands,
- * whose tail is written here, and that of completions, whose head is. A place in either is the last bits of
- * such a number, since their sizes are powers of two. A number is stored with release after what it counts,
- * and loaded with acquire before that is read. One thread has the ring, from uring_begin() on; another one
- * may only tell its event. */
+ * The kernel and this program share two queues, which are indexed by numbers that only grow, modulo 2^32: the
+ * queue of commands, whose tail is written here, and that of completions, whose head is. Because the sizes
+ * are powers of two, the low bits of a number are the index of an entry. A number must be stored with release
+ * after the entries that it covers, and loaded with acquire before these are read. From uring_begin() on,
+ * only one thread may use the ring; others may only call uring_tell(). */
 #define _GNU_SOURCE
 #include <poll.h>
 #include <string.h>
@@ -15,19 +15,19 @@
 #include <unistd.h>
 #include "uring.h"
 
-/* What headers before Linux 6.14 lack. */
+/* Definitions that the headers before Linux 6.14 lack. */
 #ifndef IORING_SETUP_NO_SQARRAY
 #define IORING_SETUP_NO_SQARRAY (1U << 16)
 #endif
 
-/* How many bytes a command has with IORING_SETUP_SQE128, and where what it has of its own begins: the field
- * `cmd` of a struct io_uring_sqe. Then the files, by the numbers under which the ring has them. */
+/* The size of a command with IORING_SETUP_SQE128, and the offset of its private part, which is the field
+ * `cmd` of a struct io_uring_sqe. Then the indices of the ring's files. */
 enum { COMMAND = 128, OWN_PART = 48 };
 _Static_assert(offsetof(struct io_uring_sqe, cmd) == OWN_PART && OWN_PART + URING_OWN == COMMAND,
 	       "a command ends with what it has of its own");
 enum { DEVICE, EVENT, FILES };
 
-/* Maps a part of the ring; NULL: it can't be. */
+/* Maps a part of the ring. Returns NULL on failure. */
 static void *map(int fd, size_t len, off_t at)
 {
 	void *memory = mmap(NULL, len, PROT_READ | PROT_WRITE, MAP_SHARED, fd, at);
@@ -35,16 +35,16 @@ static void *map(int fd, size_t len, off_t at)
 	return memory == MAP_FAILED ? NULL : memory;
 }
 
-/* Has the ring take what is in a list. 0, or -1 with errno. */
+/* Registers a list with the ring. Returns 0, or -1 with errno. */
 static int enlist(const struct uring *r, unsigned what, const void *list, unsigned count)
 {
 	return (int)syscall(SYS_io_uring_register, r->fd, what, list, count);
 }
 
-/* What goes by a ring passes no filter of system calls. So it is for these commands to its own files, and
- * nothing of it is changed any more. The kernel takes restrictions only while the ring has not begun
- * (IORING_SETUP_R_DISABLED). From uring_begin() on it refuses all that is not listed here, and so each
- * change. */
+/* Restricts a ring. Operations of a ring bypass a filter of system calls, so it may only send these commands
+ * to its own files, and its registrations may not change any more. The kernel accepts restrictions only
+ * before the ring is enabled (IORING_SETUP_R_DISABLED). From uring_begin() on it rejects all operations that
+ * are not in this list, and so each further registration. */
 static int bound(const struct uring *r, int device)
 {
 	const int files[FILES] = { [DEVICE] = device, [EVENT] = r->event };
@@ -62,19 +62,19 @@ static int bound(const struct uring *r, int device)
 
 int uring_make(struct uring *r, unsigned commands, int device)
 {
-	/* (Commands have no array of indices; one thread alone puts them in; and what completes is worked
-	 * off as that thread waits, and interrupts it nowhere else.) */
+	/* Commands have no array of indices; one thread submits them all; and completions are processed only
+	 * while that thread waits, so that they interrupt it nowhere else. */
 	struct io_uring_params made = { .flags = IORING_SETUP_SQE128 | IORING_SETUP_NO_SQARRAY |
 						 IORING_SETUP_SINGLE_ISSUER | IORING_SETUP_DEFER_TASKRUN |
 						 IORING_SETUP_R_DISABLED };
 	unsigned char *queues;
 
-	/* (and one that waits for the event) */
+	/* The additional entry is for the command that waits for the event. */
 	r->fd = (int)syscall(SYS_io_uring_setup, commands + 1, &made);
 	r->event = eventfd(0, EFD_CLOEXEC | EFD_NONBLOCK);
 	if (r->fd < 0 || r->event < 0)
 		return -1;
-	/* (both queues are in one mapping, of which the completions are the last part) */
+	/* Both queues are in one mapping, at the end of which are the completions. */
 	r->queues_len = made.cq_off.cqes + made.cq_entries * sizeof(struct io_uring_cqe);
 	r->queues = queues = map(r->fd, r->queues_len, IORING_OFF_SQ_RING);
 	r->commands_len = (size_t)made.sq_entries * COMMAND;
@@ -90,7 +90,7 @@ int uring_make(struct uring *r, unsigned commands, int device)
 	return 0;
 }
 
-/* Frees what there is, also of a ring that was made in part, or not at all if its fields are NULL and -1. */
+/* Frees a ring, even if it was made only in part, or not at all and its fields are NULL and -1. */
 void uring_free(struct uring *r)
 {
 	if (r->queues)
@@ -108,8 +108,9 @@ int uring_begin(struct uring *r)
 	return enlist(r, IORING_REGISTER_ENABLE_RINGS, NULL, 0);
 }
 
-/* Puts in what begins so, with `len` bytes of its own, and 0 after them, in place of what an earlier command had. There
- * is room as long as the caller has no more commands at once than it made the ring for. */
+/* Puts a command into the ring. Its private part has `len` bytes, and 0 after them, because the entry may
+ * have those of an earlier command. The caller must not have more commands at a time than the ring was made
+ * for, so the entry is free. */
 static void put(struct uring *r, const struct io_uring_sqe *sqe, const void *own, size_t len)
 {
 	const uint32_t tail = atomic_load_explicit(r->tail, memory_order_relaxed);
@@ -136,7 +137,7 @@ void uring_put(struct uring *r, uint32_t what, uint64_t number, const void *memo
 	put(r, &sqe, own, len);
 }
 
-/* With IORING_POLL_ADD_MULTI it stays, as long as completions have IORING_CQE_F_MORE. */
+/* With IORING_POLL_ADD_MULTI the command stays active as long as its completions have IORING_CQE_F_MORE. */
 void uring_put_event(struct uring *r)
 {
 	const struct io_uring_sqe sqe = { .opcode = IORING_OP_POLL_ADD,
@@ -149,9 +150,9 @@ void uring_put_event(struct uring *r)
 	put(r, &sqe, "", 0);
 }
 
-/* EINTR: a signal came while it waited. EAGAIN and EBUSY: the kernel lacks memory, or completions are to be
- * taken first; so what was not taken stays in the ring for the next time. All three are no errors for who
- * takes and enters again. */
+/* EINTR means that a signal came, and EAGAIN and EBUSY that the kernel lacks memory, or that completions must
+ * be taken first. Commands that were not accepted stay in the ring for the next call. So a caller that takes
+ * completions and enters again need not handle these errors. */
 int uring_enter(struct uring *r, int waits)
 {
 	const long taken = syscall(SYS_io_uring_enter, r->fd, r->waiting, waits ? 1 : 0,
@@ -162,7 +163,7 @@ int uring_enter(struct uring *r, int waits)
 	return taken >= 0 || errno == EINTR || errno == EAGAIN || errno == EBUSY ? 0 : -1;
 }
 
-/* The completion is copied before its place is given back to the kernel. */
+/* The completion must be copied before its entry is released to the kernel. */
 int uring_take(struct uring *r, struct io_uring_cqe *done)
 {
 	const uint32_t head = atomic_load_explicit(r->head, memory_order_relaxed);
@@ -176,12 +177,12 @@ int uring_take(struct uring *r, struct io_uring_cqe *done)
 
 void uring_tell(const struct uring *r)
 {
-	/* (it is full already, or there is nothing to tell) */
+	/* This fails only if the eventfd is full, and then it is readable already. */
 	if (eventfd_write(r->event, 1))
 		return;
 }
 
-/* Nothing to read is no error: the event was taken before. */
+/* This fails if the eventfd was read before, which is not an error. */
 void uring_clear(const struct uring *r)
 {
 	eventfd_t times;
