@@ -1,12 +1,13 @@
 /* Mounts and unmounts by fusermount3: fusermount.h.
  *
- * fusermount3 is a set-user-ID program. It checks whether the user may mount there, opens /dev/fuse, mounts it, and
- * sends the descriptor over the socket that the environment variable _FUSE_COMMFD names. It prints its own errors.
+ * fusermount3 is a set-user-ID program. It checks whether the user may mount there, opens /dev/fuse, mounts
+ * it, and sends the descriptor over the socket that the environment variable _FUSE_COMMFD names. It prints
+ * its own errors.
  *
- * It runs in the directory above the mount point, so that nobody's link leads elsewhere. Signals stay blocked in it,
- * because one that ended it between the mount and the message would leave a mount without a server. It may wait
- * for a file system that does not answer, so it is killed after MOST_WAIT; a signal to this process ends the wait
- * for a mount. */
+ * It runs in the parent directory of the mount point, so that no link leads elsewhere. Signals stay blocked
+ * in it, because one that ended it between the mount and the message would leave a mount without a server. It
+ * may be blocked by a file system that does not reply, so it is killed after MOST_WAIT; a signal to this
+ * process ends the wait for a mount. */
 #define _GNU_SOURCE
 #include <errno.h>
 #include <poll.h>
@@ -23,8 +24,8 @@
 #include "fusermount.h"
 #include "say.h"
 
-/* In milliseconds: how long it may take, and once a signal came; and how often this process looks. And the number of its
- * end of the socket. */
+/* In milliseconds: how long fusermount3 may take (MOST_WAIT), and how long after a signal (INTERRUPTED_WAIT);
+ * and the period of this process's checks (TICK). CHANNEL is the descriptor of the socket in fusermount3. */
 enum { MOST_WAIT = 10000, INTERRUPTED_WAIT = 1000, TICK = 20, CHANNEL = 3 };
 
 const struct mount_flag mount_flags[] = {
@@ -44,7 +45,7 @@ const struct mount_flag mount_flags[] = {
 	{ NULL, 0, 0 },
 };
 
-/* Prints what failed, and why if that is not NULL: -1. */
+/* Prints a message, with a reason if `why` is not NULL, and returns -1. */
 static int say(const struct mount_point *at, const char *what, const char *why)
 {
 	if (at->program)
@@ -52,7 +53,7 @@ static int say(const struct mount_point *at, const char *what, const char *why)
 	return -1;
 }
 
-/* The environment with the number of the socket. NULL: out of memory. */
+/* Returns the environment with the number of the socket, or NULL if out of memory. */
 static char **environment(void)
 {
 	static char channel[] = "_FUSE_COMMFD=3";
@@ -72,18 +73,18 @@ static char **environment(void)
 	return made;
 }
 
-/* The directory to run in, and the socket, which is -1 if there is none. 0, or an error. */
+/* Sets the working directory and the socket, which is -1 if there is none. Returns 0, or an error number. */
 static int set_descriptors(posix_spawn_file_actions_t *actions, int above, int channel)
 {
 	int error = above < 0 ? 0 : posix_spawn_file_actions_addfchdir_np(actions, above);
 
-	/* (a descriptor of this number stays open too, as POSIX says of adddup2) */
+	/* A descriptor that has this number already stays open too, because POSIX says so of adddup2. */
 	if (!error && channel >= 0)
 		error = posix_spawn_file_actions_adddup2(actions, channel, CHANNEL);
 	return error;
 }
 
-/* Starts fusermount3 with these arguments. Returns its process, or -1: it said why. */
+/* Starts fusermount3 with these arguments. Returns its process ID, or -1 after printing an error. */
 static pid_t start(const struct mount_point *at, int channel, const char *const *arguments)
 {
 	char **with = environment();
@@ -95,7 +96,8 @@ static pid_t start(const struct mount_point *at, int channel, const char *const 
 
 	posix_spawn_file_actions_init(&actions);
 	posix_spawnattr_init(&attributes);
-	/* (signals that this process ignores would be ignored there too, and it may wait for a child of its own) */
+	/* Signals that this process ignores would be ignored in fusermount3 too, which may wait for a child
+	 * of its own. */
 	sigemptyset(&reset);
 	sigaddset(&reset, SIGCHLD);
 	sigaddset(&reset, SIGPIPE);
@@ -113,7 +115,7 @@ static pid_t start(const struct mount_point *at, int channel, const char *const 
 	return say(at, "cannot execute fusermount3, which mounts for users other than root", strerror(error));
 }
 
-/* Whether a signal waits that ends this process. */
+/* Whether a signal that ends this process is pending. */
 static int is_interrupted(void)
 {
 	sigset_t waiting;
@@ -122,8 +124,9 @@ static int is_interrupted(void)
 					 sigismember(&waiting, SIGHUP));
 }
 
-/* Waits for the end of the process, and kills it if that takes too long; or at once, if `is_wanted` is 0. Returns 0 if it
- * succeeded, or if this process ignores its children; otherwise -1: it said why. */
+/* Waits for the end of fusermount3, and kills it if that takes too long, or at once if `is_wanted` is 0.
+ * Returns 0 if it succeeded, or if this process ignores its children, and otherwise -1 after printing an
+ * error. */
 static int finish(const struct mount_point *at, pid_t process, int is_wanted)
 {
 	const struct timespec pause = { 0, TICK * 1000000 };
@@ -132,7 +135,7 @@ static int finish(const struct mount_point *at, pid_t process, int is_wanted)
 	for (int waited = 0; waitpid(process, &status, WNOHANG) == 0; waited += TICK) {
 		if (!is_wanted || waited >= MOST_WAIT) {
 			kill(process, SIGKILL);
-			/* (it may be in a call that no signal ends, so nobody waits for it) */
+			/* It may be in a call that no signal ends, so nobody waits for it. */
 			return say(at, is_wanted ? "fusermount3 did not end in time" : "interrupted", NULL);
 		}
 		nanosleep(&pause, NULL);
@@ -140,7 +143,7 @@ static int finish(const struct mount_point *at, pid_t process, int is_wanted)
 	return status ? say(at, "fusermount3 failed", NULL) : 0;
 }
 
-/* The descriptor that was sent. -1: there is none. */
+/* Returns the descriptor that was sent, or -1 if there is none. */
 static int receive(int channel)
 {
 	union {
@@ -164,8 +167,9 @@ static int receive(int channel)
 	return device;
 }
 
-/* Waits until something was sent, or the other end is closed, for as long as it may take. (Once a signal came it may have
- * mounted already, and is about to send the descriptor, without which nobody would serve the mount.) */
+/* Waits for the descriptor, or until the other end is closed or the time is up. After a signal it waits a
+ * little longer, because fusermount3 may have mounted already: without its descriptor nobody would serve the
+ * mount. */
 static int await_device(int channel)
 {
 	struct pollfd wait = { channel, POLLIN, 0 };
@@ -180,7 +184,8 @@ static int await_device(int channel)
 	return -1;
 }
 
-/* The options for fusermount3, to be freed. NULL: out of memory. (A comma in the source would end it.) */
+/* Returns the options for fusermount3, which the caller must free, or NULL if out of memory. A comma in the
+ * source is escaped, because it would end the source. */
 static char *options_for(const char *subtype, const char *source, unsigned long flags, const char *options)
 {
 	char *made = NULL;
@@ -217,7 +222,7 @@ int fusermount_mount(const struct mount_point *at, const char *subtype, const ch
 	free(words);
 	if (process > 0) {
 		device = await_device(ends[0]);
-		/* (once it has sent the descriptor the mount is there, whatever its status is) */
+		/* Once the descriptor was sent, the file system is mounted, whatever the exit status is. */
 		if (!finish(at, process, device >= 0 || !is_interrupted()) && device < 0)
 			say(at, "fusermount3 sent no descriptor", NULL);
 	}
@@ -227,7 +232,7 @@ int fusermount_mount(const struct mount_point *at, const char *subtype, const ch
 
 int fusermount_unmount(const struct mount_point *at)
 {
-	/* (-z: what is in use is detached) */
+	/* With -z a file system that is in use is detached. */
 	const char *const arguments[] = { "fusermount3", "-u", "-q", "-z", "--", at->name, NULL };
 	const pid_t process = start(at, -1, arguments);
 
