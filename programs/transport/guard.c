@@ -1,5 +1,5 @@
-/* What a signal ends though a file system does not answer: guard.h. A call that no signal ends at all, as one of NFS, keeps
- * the process all the same, until the host answers. */
+/* Lets a signal end a process although a file system does not reply: guard.h. A call that no signal can end,
+ * such as one of NFS, nevertheless keeps the process until its server replies. */
 #define _GNU_SOURCE
 #include <errno.h>
 #include <fcntl.h>
@@ -15,7 +15,7 @@
 #include "say.h"
 #include "transport.h"
 
-/* `done` is told once all is. */
+/* `done` is an eventfd that guard_end() writes. */
 static struct guard {
 	pthread_t thread;
 	void (*leave)(void);
@@ -23,7 +23,7 @@ static struct guard {
 	unsigned long tasks;
 } guard;
 
-/* How many threads Linux has of this process, and two more; 0: it doesn't tell. */
+/* Returns the number of this process's threads plus two, or 0 if Linux does not report it. */
 static unsigned long count_tasks(void)
 {
 	struct stat seen;
@@ -62,14 +62,15 @@ int guard_begin(const char *program, void (*leave)(void))
 	return -1;
 }
 
-/* (Linux has the thread for a moment still when it is joined, and a process of several gets no namespace of users) */
+/* Linux still counts the thread for a moment after it was joined, and a process with several threads cannot
+ * enter a new user namespace. So this waits until it is gone. */
 void guard_end(void)
 {
 	enum { TRIES = 1000 };
 	const struct timespec pause = { 0, 1000000 };
 	const uint64_t one = 1;
 
-	/* (an event of ours is never full) */
+	/* An eventfd that only this program writes is never full, so it does not block. */
 	while (write(guard.done, &one, sizeof(one)) < 0 && errno == EINTR)
 		;
 	pthread_join(guard.thread, NULL);

@@ -1,18 +1,20 @@
-/* What a signal ends though a file system does not answer, for programs that serve. */
+/* Lets a signal end a process although a file system does not reply. */
 #ifndef GUARD_H
 #define GUARD_H
 
-/* In milliseconds: how long what is guarded may take once a signal came. */
+/* In milliseconds: how long guarded code may take after a signal. */
 enum { GUARD_MOST = 1800 };
 
-/* Between the two the signals that end a transport are blocked, and a thread waits for one: if it comes, and guard_end()
- * does not within GUARD_MOST, the thread calls `leave`, and ends the process with status 0, as a signal is no failure. It takes
- * no signal, so that the transport has it. 0, or -1: it failed, and said why. */
+/* Guard the code between the two calls. The signals that end a transport are blocked, and a thread waits for
+ * one. If a signal comes, and guard_end() is not called within GUARD_MOST, the thread calls `leave` and ends
+ * the process with status 0, because a signal is not a failure. The thread does not consume the signal, so
+ * that the transport gets it too. guard_begin() returns 0, or -1 after printing an error. */
 int guard_begin(const char *program, void (*leave)(void));
 void guard_end(void);
 
-/* Has another thread call it, which is waited for a second. What stands by a namespace of processes can make no thread,
- * and SIGALRM ends it then. */
+/* Calls a function on another thread, and waits for it for a second. A process that has created a PID
+ * namespace for its children cannot create threads: it calls the function itself, and SIGALRM ends it after a
+ * second. */
 void guard_call(void *(*call)(void *));
 
 #endif
