@@ -1,8 +1,8 @@
 /* The heap of a program that keeps files in memory: heap.h.
  *
- * The kernel clears each page that it hands out. Where a server asks for pages one by one, as it writes to them,
- * a file's end takes twice the time of bytes that are there. So the heap grows by many pages at once, and a
- * thread of its own has them handed out while the server answers. */
+ * The kernel clears each page that it allocates. If a server faults pages in one by one as it writes to them,
+ * to extend a file takes twice as long as to overwrite it. So the heap grows by many pages at once, and a
+ * separate thread populates them while the server serves requests. */
 #define _GNU_SOURCE
 #include <malloc.h>
 #include <pthread.h>
@@ -14,19 +14,20 @@
 #include <unistd.h>
 #include "heap.h"
 
-/* In bytes: how far the heap grows at once at least; how many pages are asked for at once; and how much is free
- * at its end when it shrinks. */
+/* In bytes: the least growth of the heap (GROWTH); how much is populated by one call (STEP); and how much
+ * must be free at the end of the heap before it shrinks (TRIMMED). */
 enum { GROWTH = 8 << 20, STEP = 256 << 10, TRIMMED = 64 << 20 };
 
 #ifndef MADV_POPULATE_WRITE
 #define MADV_POPULATE_WRITE 23
 #endif
 
-/* Where the heap ended when the server looked last, and what tells that it ends elsewhere. */
+/* The end of the heap at the last check, and an eventfd that is written when it has changed. */
 static _Atomic(uintptr_t) ends;
 static int moved = -1;
 
-/* Has pages handed out up to the heap's end. One that went meanwhile is no loss. */
+/* Populates the pages up to the end of the heap. madvise() may fail for pages that are freed meanwhile, which
+ * is harmless. */
 static void *hand_out(void *unused)
 {
 	uintptr_t done = atomic_load(&ends), end;
@@ -56,7 +57,7 @@ void heap_begin(void)
 	mallopt(M_TRIM_THRESHOLD, TRIMMED);
 	atomic_store(&ends, (end + page - 1) / page * page);
 	moved = eventfd(0, EFD_CLOEXEC);
-	/* (signals are for the thread that serves) */
+	/* Signals are for the thread that serves. */
 	sigfillset(&all);
 	pthread_sigmask(SIG_SETMASK, &all, &before);
 	if (moved >= 0 && !pthread_create(&thread, NULL, hand_out, NULL))

@@ -2,12 +2,13 @@
 #ifndef HEAP_H
 #define HEAP_H
 
-/* Before it serves: all threads have one heap, which grows by 8 MiB at least, and shrinks once 64 MiB are free at
- * its end. (One of a worker's own grows by a call of the kernel for each page.) */
+/* Must be called before serving. All threads then share one heap, because the heap of a thread grows by a
+ * system call for each page. The heap grows by at least 8 MiB, and shrinks when 64 MiB are free at its
+ * end. */
 void heap_begin(void);
 
-/* After a request, by the thread that answered it: where the heap has grown, its pages are handed out while the
- * next ones are answered. */
+/* Must be called after each request by the thread that served it. If the heap has grown, its new pages are
+ * populated while the next requests are served. */
 void heap_look(void);
 
 #endif
