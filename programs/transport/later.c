@@ -1,32 +1,35 @@
-/* Requests that are answered later: transport.h. One lock is for all, since few are: so whoever completes
- * one and whoever ends the transport have not to know of each other.
+/* Requests that are completed later: transport.h. There is one lock for all of them, because such requests
+ * are few; so the thread that completes a request and the one that ends the transport need not know each
+ * other.
  *
- * A request that is kept is in a list of its transport until it is completed, or until later_end() takes it
- * out. From then on its transport may be gone, and what completes it only frees it. No other lock is taken
- * while this one is held, and `send` is called without it, since that may wait. */
+ * A kept request is in a list of its transport until it is completed, or until later_end() removes it.
+ * Afterwards its transport may not exist any more, and nizwarf_request_complete() only frees the request. No
+ * other lock may be taken while this one is held, and `send` must be called without it, because it may
+ * block. */
 #define _GNU_SOURCE
 #include <pthread.h>
 #include <stdlib.h>
 #include <time.h>
 #include "later.h"
 
-/* A request that was kept. It is allocated by nizwarf_request_keep(), and freed by nizwarf_request_complete(), which is
- * called once. The lock guards all but `send` and `about`, which stay as they are. */
+/* A kept request. nizwarf_request_keep() allocates it, and nizwarf_request_complete(), which must be called
+ * once, frees it. The lock protects all fields but `send` and `about`, which do not change. */
 struct nizwarf_request {
-	/* NULL: it can't be completed any more. */
+	/* NULL: it can no longer be completed. */
 	struct later_list *list;
-	/* Where its places are counted; NULL: it has none. */
+	/* The counter of its places, or NULL if it has none. */
 	unsigned *taken, places;
-	/* The next in the list, and what points to this one. */
+	/* The next request in the list, and the pointer to this one. */
 	nizwarf_request *next, **at;
 	void (*send)(void *about, int32_t code, const void *reply, size_t len);
-	/* What the transport keeps of it, copied: a struct of its own, so it is aligned for any. */
+	/* A copy of the transport's data. They are a struct of the transport, so they need the alignment of
+	 * any struct. */
 	_Alignas(max_align_t) unsigned char about[];
 };
 
 static pthread_mutex_t lock = PTHREAD_MUTEX_INITIALIZER;
 static pthread_cond_t sent = PTHREAD_COND_INITIALIZER;
-/* What this thread serves now, on its stack; NULL: nothing that can be kept. */
+/* The request that this thread serves now, on its stack, or NULL if that cannot be kept. */
 static _Thread_local struct later_source *serving;
 
 void later_serve(struct later_source *source)
@@ -34,13 +37,13 @@ void later_serve(struct later_source *source)
 	serving = source;
 }
 
-/* It is read after `serve` came back, on the same thread, so without the lock. */
+/* `is_kept` is read by the thread that has set it, so without the lock. */
 int later_keeps(const struct later_source *source, int32_t code)
 {
 	return code == NIZWARF_CALL && source->is_kept;
 }
 
-/* Puts it first into the list. The lock is held. */
+/* Inserts a request into the list. The lock must be held. */
 static void link_later(nizwarf_request *later, struct later_list *list)
 {
 	later->list = list;
@@ -52,7 +55,7 @@ static void link_later(nizwarf_request *later, struct later_list *list)
 	list->kept++;
 }
 
-/* Whether one more may be kept. The lock is held. */
+/* Whether one more request may be kept. The lock must be held. */
 static int has_room(const struct later_source *source)
 {
 	const struct later_list *list = source->list;
@@ -61,8 +64,8 @@ static int has_room(const struct later_source *source)
 	       (!source->taken || *source->taken + source->places <= source->most_places);
 }
 
-/* `is_kept` is of this thread alone. Memory is allocated before the lock is taken, which so is held for a
- * moment. */
+/* Only this thread uses `is_kept`. Memory is allocated before the lock is taken, so that the lock is held
+ * only briefly. */
 nizwarf_request *nizwarf_request_keep(void)
 {
 	struct later_source *source = serving;
@@ -76,7 +79,7 @@ nizwarf_request *nizwarf_request_keep(void)
 	memcpy(later->about, source->about, source->size);
 	later->send = source->send;
 	pthread_mutex_lock(&lock);
-	/* (from here on another thread may take it out of the list) */
+	/* From here on another thread may remove the request from the list. */
 	source->is_kept = has_room(source);
 	if (source->is_kept) {
 		later->taken = source->taken;
@@ -92,7 +95,7 @@ nizwarf_request *nizwarf_request_keep(void)
 	return NULL;
 }
 
-/* Takes it out of the list, and so out of the transport's hands. The lock is held. */
+/* Removes a request from the list, so that the transport no longer uses it. The lock must be held. */
 static void unlink_later(struct later_list *list, nizwarf_request *later)
 {
 	*later->at = later->next;
@@ -104,7 +107,7 @@ static void unlink_later(struct later_list *list, nizwarf_request *later)
 	later->list = NULL;
 }
 
-/* While it is sent the list waits for that, in later_end(): so the transport that it is sent to is there. */
+/* later_end() waits while `sending` is not 0, so the transport exists until `send` returns. */
 void nizwarf_request_complete(nizwarf_request *later, int32_t code, const void *reply, size_t len)
 {
 	struct later_list *list;
@@ -140,7 +143,7 @@ void later_close(struct later_list *list)
 	pthread_mutex_unlock(&lock);
 }
 
-/* What is being sent is in no list any more, but its transport still has to take it. */
+/* A reply that is being sent is in no list any more, but the transport still has to take it. */
 int later_is_empty(struct later_list *list)
 {
 	int is_empty;
@@ -151,7 +154,7 @@ int later_is_empty(struct later_list *list)
 	return is_empty;
 }
 
-/* Whoever completes one that is taken out here frees it, and sends nothing. */
+/* A request that is removed here is only freed when it is completed; nothing is sent. */
 int later_end(struct later_list *list, int most)
 {
 	struct timespec until;
