@@ -1,4 +1,5 @@
-/* Lines on standard error, which must hold up nobody: a pipe may be full for as long as its reader likes. */
+/* Messages on standard error. They must not block anybody, because a pipe may be full for as long as its
+ * reader wants. */
 #ifndef SAY_H
 #define SAY_H
 
@@ -11,9 +12,10 @@
 #include <sys/uio.h>
 #include <unistd.h>
 
-/* Writes a line to standard error if it is taken at once, and drops it otherwise. It does not go by stdio, whose lock
- * another thread may have that waits. A pipe that is ready takes PIPE_BUF bytes, but another thread or process may fill it
- * between the two calls: so a pipe or a socket is written with RWF_NOWAIT, if Linux has that for it (since 6.5). */
+/* Writes a line to standard error if that does not block, and drops it otherwise. It does not use stdio,
+ * because another thread may block with the lock of the stream. A pipe that poll(2) reports as ready takes
+ * PIPE_BUF bytes, but another thread or process may fill it before the write. So pipes and sockets are
+ * written with RWF_NOWAIT, if Linux supports that for them (since 6.5). */
 __attribute__((format(printf, 2, 3))) static inline void transport_say(const char *program,
 								       const char *format, ...)
 {

@@ -1,14 +1,14 @@
 /* A trace of the requests and replies of a transport: trace.h.
  *
- * It is called between the transport and its function, and copies what is in several pieces or in the memory
- * of a virtual machine before it is printed. The options by which requests are printed are those of the
- * last reply to an INIT. A guest may change its memory between the copy and the answer: then the trace is
- * of other data of a WRITE, or another reply, than went. It is for who looks for a fault: it costs a copy
- * of each request and reply, and a trace of bytes has the data of all files that were read and written.
+ * It is called between the transport and its function. It copies data that are in several pieces, or in the
+ * memory of a virtual machine, before it prints them. Requests are decoded by the options of the last reply
+ * to an INIT. A guest may change its memory after the copy; then the trace shows other data of a WRITE, or
+ * another reply, than were sent. A trace is for debugging: it costs a copy of each request and reply, and a
+ * trace of bytes contains the data of all files that were read and written.
  *
- * Each worker traces what it serves, on its own thread. A line is written at once, so that lines of several
- * workers stand between one another but not in one another. Of a request that is answered later a line says
- * so, in a file by the name AnsweredLater in place of an error; its reply is not traced. */
+ * Each worker traces its own requests on its own thread. A line is written at once, so lines of several
+ * workers are interleaved but never mixed. For a request that is completed later the trace says so, in a file
+ * by the name AnsweredLater in place of an error; its reply is not traced. */
 #define _GNU_SOURCE
 #include <errno.h>
 #include <fcntl.h>
@@ -21,26 +21,27 @@
 #include <unistd.h>
 #include "trace.h"
 
-/* Names of the codes 1 to 10, as nizwarf-decode reads them: those of NIZWARF_DECODE_MESSAGE .. in
- * nizwarf.h. */
+/* Names of the codes 1 to 10, NIZWARF_DECODE_MESSAGE and its successors in nizwarf.h, as nizwarf-decode reads
+ * them. */
 static const char *const refusals[] = {
 	"DecodeMessage",   "EncodeMessage",	  "FlushMessage",     "MissingParameter", "InvalidCString",
 	"InvalidCString2", "InvalidHeaderLength", "InvalidXattrSize", "MissingExtension", "OutOfMemory",
 };
 
-/* What is traced, and where its bytes go: NULL if it is printed by name. Both are set before workers begin.
- * The options are those of INIT that were agreed on; before it, and after a DESTROY, there are none. */
+/* The traced transport, and the file for bytes, or NULL if names are printed. Both must be set before workers
+ * start. The options are those that INIT has enabled; there are none before it, and after a DESTROY. */
 static nizwarf_transport of;
 static FILE *file;
 static _Atomic uint64_t options;
 
-/* Bytes that were copied: allocated here, and freed by who has them. */
+/* A copy of bytes. gather() allocates it, and its owner must free it. */
 struct bytes {
 	unsigned char *at;
 	size_t len;
 };
 
-/* The first `most` bytes of pieces, in one. NULL: there is no memory. Of no bytes it is not NULL. */
+/* Copies the first `most` bytes of pieces into one. `at` is NULL if out of memory; it is not NULL for 0
+ * bytes. */
 static struct bytes gather(const struct iovec *piece, size_t pieces, size_t most)
 {
 	struct bytes all = { NULL, 0 };
@@ -61,16 +62,16 @@ static struct bytes gather(const struct iovec *piece, size_t pieces, size_t most
 	return all;
 }
 
-/* Prints a line, and frees it. What is not printed for want of memory is told: the request is served all
- * the same. */
+/* Prints a line, and frees it. Without memory for the line it prints that instead, and the request is served
+ * nevertheless. */
 static void put_line(char *line)
 {
 	fprintf(stderr, "%s\n", line ? line : "(out of memory for a line of the trace)");
 	free(line);
 }
 
-/* What prints is called twice: to learn how long the line is, and to have it. It takes any bytes, those of
- * no request too. */
+/* nizwarf_print_request() is called twice: for the length of the line, and for the line. It accepts any
+ * bytes, even if they are not a request. */
 static void print_request(const struct bytes *request)
 {
 	const size_t size = nizwarf_print_request(request->at, request->len, options, NULL, 0) + 1;
@@ -92,8 +93,9 @@ static void print_reply(const struct bytes *request, const struct bytes *reply)
 	put_line(line);
 }
 
-/* The name of a code that is not NIZWARF_OK: one word, as nizwarf-decode reads no other. NIZWARF_CALL refuses
- * nothing: the request was kept. The others say that a server or the codec was used wrongly. */
+/* Returns the name of a code other than NIZWARF_OK, which must be one word for nizwarf-decode. NIZWARF_CALL
+ * is not an error: the request was kept. The other codes mean that a server or the codec was used
+ * incorrectly. */
 static const char *name_of(int32_t code)
 {
 	if (code == NIZWARF_CALL)
@@ -101,10 +103,10 @@ static const char *name_of(int32_t code)
 	return code >= 1 && code <= NIZWARF_OUT_OF_MEMORY ? refusals[code - 1] : "WrongUse";
 }
 
-/* The two sizes of a SETXATTR that is refused for them: that which its record tells, and that of the bytes
- * after the name. The record is longer where SETXATTR_EXT was agreed on. A guest may have changed the request
- * after it was copied, and another worker the options: so nothing is read past the copy, whatever its header
- * says. */
+/* Writes the two sizes of a SETXATTR that was rejected because of them: the size in its record, and that of
+ * the bytes after the name. The record is longer if SETXATTR_EXT is enabled. A guest may have changed the
+ * request after it was copied, and another worker the options, so nothing past the copy may be read, whatever
+ * the header says. */
 static void record_sizes(const struct bytes *request)
 {
 	const size_t at = sizeof(struct fuse_in_header) + (options & FUSE_SETXATTR_EXT ?
@@ -131,9 +133,9 @@ static void record_bytes(const struct bytes *bytes)
 		fprintf(file, "%02x", bytes->at[i]);
 }
 
-/* A request with its answer, after one another, whichever worker has it: two lines, of which the first
- * begins with the length of the room. The file's lock is held for both. That it is not whole is told once,
- * and ends nothing: who fills the disk stops the trace, and not the server. */
+/* Writes a request and its result as two lines, of which the first begins with the length of the reply
+ * buffer. The lock of the file is held for both, so that no other worker writes in between. An incomplete
+ * trace is reported once, and does not end the server, for example if the disk is full. */
 static void record(const struct bytes *request, size_t room, int32_t code, const struct bytes *reply)
 {
 	static bool is_told;
@@ -157,8 +159,7 @@ static void record(const struct bytes *request, size_t room, int32_t code, const
 	funlockfile(file);
 }
 
-/* Takes the options from the reply to an INIT. One that is shorter than a fuse_init_out changes nothing
- * here. */
+/* Sets the options from the reply to an INIT. A reply that is shorter than a fuse_init_out is ignored. */
 static void agree(const struct bytes *request, const struct bytes *reply)
 {
 	struct fuse_init_out agreed = { 0 };
@@ -178,8 +179,8 @@ static void agree(const struct bytes *request, const struct bytes *reply)
 		options = agreed.flags | (uint64_t)agreed.flags2 << 32;
 }
 
-/* Prints what came of a request. A reply is the first `len` bytes of the rooms, which are read here. Where
- * it was refused there is none. */
+/* Prints the result of a request. A reply is the first `len` bytes of the reply buffer, which is read here.
+ * If the request was rejected, there is none. */
 static void tell(const struct bytes *request, const struct iovec *room, size_t rooms, int32_t code,
 		 size_t len)
 {
@@ -210,9 +211,9 @@ static void tell(const struct bytes *request, const struct iovec *room, size_t r
 	free(pieces);
 }
 
-/* Called in place of the transport's function. The request is printed before that is called, so that one
- * that doesn't come back is seen. Without memory for a copy it is served all the same, and a line says that
- * there was none. */
+/* Is called in place of the transport's function. It prints the request before it calls that function, so
+ * that a request that never returns is visible. Without memory for a copy the request is served nevertheless,
+ * and a line reports the lack. */
 static int32_t serve(void *user, unsigned worker, const struct iovec *request, size_t segments,
 		     const struct iovec *room, size_t rooms, size_t *len)
 {
@@ -232,7 +233,7 @@ static int32_t serve(void *user, unsigned worker, const struct iovec *request, s
 
 int trace_begin(nizwarf_transport *by, const char *path)
 {
-	/* (the data of all files will be in it) */
+	/* The file may contain the data of all files, so only its owner may read it. */
 	const int fd = path ? open(path, O_WRONLY | O_CREAT | O_EXCL | O_CLOEXEC, 0600) : -1;
 
 	if (path && (fd < 0 || !(file = fdopen(fd, "w")))) {
@@ -243,7 +244,7 @@ int trace_begin(nizwarf_transport *by, const char *path)
 	}
 	of = *by;
 	by->serve = serve;
-	/* (replies are printed from the rooms) */
+	/* Replies are printed from the reply buffer, in which data of a pipe would be missing. */
 	by->splices = 0;
 	return 0;
 }

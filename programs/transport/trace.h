@@ -4,10 +4,10 @@
 
 #include "transport.h"
 
-/* Has a transport print a line for each request and one for each reply to standard error, with the
- * fields by name. If there is a path, a new file of that path gets both as bytes instead, in the lines
- * that the program nizwarf-decode reads. It is called once, before the transport serves. Answers 0, or -1:
- * it failed, and said why. */
+/* Makes a transport print a line for each request and each reply to standard error, with the names of fields.
+ * If `path` is not NULL, both are written as bytes to a new file of that path instead, in the format of
+ * nizwarf-decode. It must be called once, before the transport serves. Returns 0, or -1 after printing an
+ * error. */
 int trace_begin(nizwarf_transport *by, const char *path);
 
 #endif
