@@ -1,21 +1,21 @@
 /* Queues of a virtio-fs device, and their workers: vhost_queue.h.
  *
  * The guest may write all of its memory at any time. So a descriptor is copied before it is checked, and a
- * request before it is handed on: both once. The room is not read. What a descriptor is, and where in the
- * memory that the front end shared, the library says: chain.h. So a wrong index, a chain in a circle, or an
- * address of nothing stops the guest's own queue, or comes back to it as a reply of no bytes, and leads
- * nowhere but into its own memory.
+ * request before it is served, both only once, and the reply buffer is not read. The library decodes the
+ * copies and finds the pieces in the shared memory: chain.h. So an invalid index, a cycle of descriptors or
+ * an unmapped address stops the guest's own queue, or is completed with a reply of no bytes, and cannot lead
+ * outside the guest's own memory.
  *
- * Threads. Each worker waits for kicks, takes a chain of the queue that was kicked, has it answered, gives
- * it back, and takes the next one. Several may serve one queue at once; then chains come back in another
- * order, as virtio lets a device do. The calling thread, that of vhost_user.c, takes no chain: it changes
- * queues and memory between them.
+ * Threads. Each worker waits for kicks, takes a chain from the queue that was kicked, has the request served,
+ * completes the chain, and takes the next one. Several workers may serve one queue at once; chains may then
+ * be completed in a different order, which virtio permits. The calling thread, that of vhost_user.c, takes no
+ * chains: it changes queues and memory in between.
  *
- * Locks, in the order in which they are taken. A worker has `in_flight` of its guest for reading as long as
- * it touches that memory or looks at the queues, and the calling thread has it for writing while it changes
- * them. The `lock` of a queue is for its counters, its rings and its late answers; nothing is written to a
- * descriptor of the front end's while it is held. The lock of later.c may be taken with `in_flight`, but
- * never with that of a queue. `guests` is taken alone. */
+ * Locks, in the order in which they must be taken. A worker must hold `in_flight` of its guest for reading as
+ * long as it accesses the guest's memory or queues, and the calling thread must hold it for writing while it
+ * changes them. The `lock` of a queue protects its counters, its rings and its late replies; no descriptor of
+ * the front end may be written while it is held. The lock of later.c may be taken with `in_flight`, but never
+ * with that of a queue. `guests` must be taken alone. */
 #define _GNU_SOURCE
 #include <errno.h>
 #include <fcntl.h>
@@ -32,17 +32,17 @@
 #include "say.h"
 #include "vhost_queue.h"
 
-/* What is after the longest request is not looked at, and no longer room is lent: a header and its record
- * take less than a page, and a guest that keeps to what INIT agreed on has no larger payload. PIECES bounds
- * the pieces of a request, those of its room, and the entries of an indirect table; a chain of more is
- * none. */
+/* Bytes after the longest request are ignored, and no more of a reply buffer is used. A header and its record
+ * take less than a page, and a guest that observes the limits of INIT has no larger payload. PIECES limits
+ * the pieces of a request, the pieces of its reply buffer, and the entries of an indirect table; a longer
+ * chain is invalid. */
 enum { PIECES = 1024, LONGEST = NIZWARF_MAX_PAYLOAD + 4096 };
-/* The opcode is the second word of a fuse_in_header, and so ends with byte 8. A WRITE begins with
- * WRITE_HEAD bytes: 40 of that header, and 40 of a fuse_write_in. */
+/* The opcode is the second word of a fuse_in_header, so it ends at byte 8. A WRITE begins with WRITE_HEAD
+ * bytes: 40 of that header and 40 of a fuse_write_in. */
 enum { OPCODE_WRITE = 16, OPCODE_END = 8, WRITE_HEAD = 80 };
 
-/* A guest hands memory on from one worker to another, by numbers that it reads and writes. The
- * thread sanitizer does not see the guest. */
+/* The guest passes memory from one worker to another through indices that it reads and writes. The thread
+ * sanitizer does not see the guest, so it needs these hints. */
 #ifdef __SANITIZE_THREAD__
 void __tsan_acquire(void *at);
 void __tsan_release(void *at);
@@ -54,46 +54,48 @@ static char from_guest;
 #define TO_GUEST() ((void)0)
 #endif
 
-/* How many bytes of memory a bit of the log is of: VHOST_LOG_PAGE, as vhost-user has it, whatever a page of
- * this machine. */
+/* How many bytes of memory a bit of the log covers. This is VHOST_LOG_PAGE of vhost-user, regardless of the
+ * page size of this machine. */
 enum { LOG_PAGE = 4096 };
 
 struct guest *vhost_guest;
-/* Is held by who changes which one it is, or its users. */
+/* Must be held to change the pointer or the number of the guest's users. */
 static pthread_mutex_t guests = PTHREAD_MUTEX_INITIALIZER;
 
-/* Workers wait for `events`, an epoll descriptor: each queue is there twice, with its kick and with its own
- * event (queue_look), both under the queue's number, and so is the event that ends the workers. */
+/* Workers wait for `events`, an epoll descriptor. It has two descriptors of each queue, its kick and its own
+ * event (queue_look), both with the number of the queue, and the event that ends the workers. */
 enum { STOP = QUEUES };
 static int events, stop;
-/* What wakes the calling thread: a worker that failed; memory that is gone. */
+/* These events wake the calling thread when a worker has failed, or shared memory is lost. */
 static int over, lost;
 
-/* In milliseconds: how long the calling thread waits for requests at once, and rests then; from when on it
- * interrupts them; and when it waits no longer. */
+/* In milliseconds: how long the calling thread waits for requests at a time (HOLD), and pauses in between
+ * (REST); after which time it interrupts them (INTERRUPTS); and after which time it gives up (MOST). */
 enum { HOLD = 200, REST = 5, INTERRUPTS = 250, MOST = 1000 };
 
-/* A worker, and the chain that it has. It has more than 1 MiB, so it is allocated: by start_worker(), and
- * freed by join_workers(). */
+/* A worker and its current chain. It is larger than 1 MiB, so start_worker() allocates it, and join_workers()
+ * frees it. */
 struct worker {
 	unsigned number;
 	pthread_t thread;
-	/* Whom it serves now. */
+	/* The guest that it serves now, or NULL. */
 	_Atomic(struct guest *) serves;
-	/* A chain: the request is copied, but for the data of a WRITE if they are to stay. It has `len`
-	 * bytes, of which the first `copied` are in `request`. The first segment is of these, the others
-	 * are the guest's memory, and so are the rooms, which have `room_len` bytes together. */
+	/* A chain. Its request has `len` bytes, of which the first `copied` are in `request`: all, unless the
+	 * data of a WRITE stay in the guest's memory. The first segment has the copied bytes; the other
+	 * segments are in the guest's memory, and so is the reply buffer, whose pieces have `room_len` bytes
+	 * together. */
 	size_t len, copied, segments, rooms, room_len;
-	/* How many descriptors of the queue it takes: one, where they are in a table of its own. */
+	/* How many descriptors of the queue it uses. A chain in an indirect table uses one. */
 	unsigned places;
 	struct iovec segment[PIECES + 1];
 	struct iovec room[PIECES];
 	unsigned char request[LONGEST];
 };
 
-/* What came of the requests, by its number, and what a guest or its front end did that is wrong. A guest must not fill
- * a log, however often it breaks a rule: so of each kind of fault the first one of a front end is a line, and how often
- * each kind came is another line when the front end has gone. Of chains that are none there is the second line alone. */
+/* Counts the results of requests, by code, and violations of the protocol by a guest or its front end. A
+ * guest must not be able to fill a log by repeated violations. So only the first violation of each kind is
+ * reported for a front end, and their numbers when it has disconnected. For malformed chains only the number
+ * is reported. */
 enum { OUTCOMES = 32 };
 enum fault { NO_FAULT, BAD_CHAIN, BAD_QUEUE, BAD_CALL, BAD_LOG_EVENT, FAULTS };
 static atomic_ulong outcomes[OUTCOMES], faults[FAULTS];
@@ -104,22 +106,22 @@ static const char *const fault_names[FAULTS] = {
 	[BAD_LOG_EVENT] = "log descriptors that cannot be written",
 };
 
-/* The transport, and its workers, which the calling thread alone starts and joins. Each of these knows
- * itself by `this_worker`, which is NULL in other threads. */
+/* The transport, and its workers, which only the calling thread starts and joins. `this_worker` is the worker
+ * of a thread, and NULL in other threads. */
 static const nizwarf_transport *by;
 static const nizwarf_machine *machine;
 static struct worker *workers[NIZWARF_MAX_WORKERS];
 static unsigned started;
 static _Thread_local const struct worker *this_worker;
 
-/* Says on standard error what failed, and why by errno, and returns -1. */
+/* Prints what failed and why, by errno, and returns -1. */
 static int failed(const char *what)
 {
 	transport_say(by->program, "cannot %s: %s", what, strerror(errno));
 	return -1;
 }
 
-/* Counts a fault, and says so the first time that a front end has it. No lock of a queue is held. */
+/* Counts a violation, and reports the first one of a front end. No lock of a queue may be held. */
 static void note(enum fault fault)
 {
 	if (fault && !atomic_fetch_add(&faults[fault], 1) && fault != BAD_CHAIN)
@@ -127,8 +129,8 @@ static void note(enum fault fault)
 			      fault_names[fault]);
 }
 
-/* Wakes who waits for an event of ours. None is ever full: it would take 2^64 - 2 calls. A signal's handler
- * calls it too. */
+/* Wakes the thread that waits for an eventfd of this process. It never blocks, because an eventfd is full
+ * only after 2^64 - 2 writes. A signal handler calls it too. */
 static void tell(int event)
 {
 	const uint64_t one = 1;
@@ -137,12 +139,13 @@ static void tell(int event)
 		failed("write to an eventfd");
 }
 
-/* ---- what is written, by workers: it is marked after the writing, since who reads the marks takes them away first */
+/* ---- the dirty log, by workers: bytes must be marked after they were written, because the reader clears a
+ * mark before it reads the bytes */
 
-/* Marks bytes of the guest by their address there. What is past the end of the log is none of its memory,
- * or the front end has made the log too short, which is its own loss. Other workers mark, and the front end
- * takes marks away, at the same time: so a bit is set at once, and not by reading and writing its byte. The
- * size of the log is in bytes. */
+/* Marks bytes by their address in the guest. Addresses past the end of the log are ignored: they are not
+ * memory, or the front end has made the log too short, which harms only itself. Other workers set marks and
+ * the front end clears them at the same time, so a bit must be set atomically. `size` of the log is in
+ * bytes. */
 static void mark(const struct log *log, uint64_t address, uint64_t len)
 {
 	uint64_t page = address / LOG_PAGE, left;
@@ -154,8 +157,8 @@ static void mark(const struct log *log, uint64_t address, uint64_t len)
 		__atomic_fetch_or(&log->at[page / 8], (unsigned char)(1u << page % 8), __ATOMIC_SEQ_CST);
 }
 
-/* Marks bytes where they are mapped, all of which lie in the region that has the first one. They were
- * written before. */
+/* Marks bytes by their address in this process. All must be in the region of the first one, and must have
+ * been written. */
 static void mark_at(const struct guest *g, const void *at, size_t len)
 {
 	const uintptr_t from = (uintptr_t)at;
@@ -172,7 +175,8 @@ static void mark_at(const struct guest *g, const void *at, size_t len)
 	}
 }
 
-/* Marks rooms wholly: what failed, or answered fewer bytes, may have written to any of them. */
+/* Marks the whole reply buffer, because a request that failed or has a shorter reply may have written any of
+ * it. */
 static void mark_rooms(const struct guest *g, const struct iovec *room, size_t rooms)
 {
 	if (g->logs)
@@ -180,8 +184,8 @@ static void mark_rooms(const struct guest *g, const struct iovec *room, size_t r
 			mark_at(g, room[i].iov_base, room[i].iov_len);
 }
 
-/* Marks bytes of a used ring: by the address that SET_VRING_ADDR gave with VHOST_VRING_F_LOG, which may be
- * that of no memory that is shared, or else where they are. */
+/* Marks bytes of a used ring. If SET_VRING_ADDR had VHOST_VRING_F_LOG, its address counts, which need not be
+ * in shared memory, and otherwise the address of the bytes. */
 static void mark_used(const struct guest *g, const struct queue *q, const void *at, size_t len)
 {
 	const uint64_t offset = (uint64_t)((const char *)at - (const char *)q->used);
@@ -192,8 +196,8 @@ static void mark_used(const struct guest *g, const struct queue *q, const void *
 		mark(&g->log, q->log_address + offset, len);
 }
 
-/* Marks what gave the last chain back: its entry of the used ring, and the index. The lock of the queue is
- * held. */
+/* Marks the entry of the used ring that has completed the last chain, and the index. The lock of the queue
+ * must be held. */
 static void mark_given(const struct guest *g, const struct queue *q)
 {
 	const uint32_t slot = nizwarf_ring_slot_at((uint16_t)(q->done - 1), q->size);
@@ -202,7 +206,8 @@ static void mark_given(const struct guest *g, const struct queue *q)
 	mark_used(g, q, &q->used->idx, sizeof(q->used->idx));
 }
 
-/* Tells the front end that something was marked, if it wants to be told. It can have this wait, as call_guest(). */
+/* Notifies the front end of new marks, if it has set a descriptor for that. This may block, as in
+ * call_guest(). */
 static void tell_log(const struct guest *g)
 {
 	const uint64_t one = 1;
@@ -214,8 +219,8 @@ static void tell_log(const struct guest *g)
 
 /* ---- chains, by workers */
 
-/* Copies the next bytes of a request, until that many are copied, and moves `at` and `len` past them.
- * `most` is at most LONGEST, so they fit. */
+/* Copies the next bytes of a request until `most` bytes are copied, and advances `at` and `len` past them.
+ * `most` must not exceed LONGEST, so the bytes fit. */
 static void copy_up_to(struct worker *w, size_t most, const unsigned char **at, size_t *len)
 {
 	size_t n = w->copied < most ? most - w->copied : 0;
@@ -227,9 +232,9 @@ static void copy_up_to(struct worker *w, size_t most, const unsigned char **at, 
 	*len -= n;
 }
 
-/* Adds bytes of a request: all are copied, but of a WRITE whose data stay the header and the record alone.
- * The opcode is that of the copy: so a guest that changes it afterwards changes nothing. -1: it is in too
- * many pieces. */
+/* Adds bytes of a request. All are copied, except the data of a WRITE if these stay in the guest's memory.
+ * The opcode is taken from the copy, so that a guest cannot change it afterwards. Returns -1 if the request
+ * has too many pieces. */
 static int add_request(struct worker *w, const unsigned char *at, size_t len)
 {
 	uint32_t opcode = 0;
@@ -251,8 +256,8 @@ static int add_request(struct worker *w, const unsigned char *at, size_t len)
 	return 0;
 }
 
-/* Adds bytes of the guest to the chain, as far as they are not after the longest request or room. -1: there
- * are too many pieces. */
+/* Adds a piece of the guest's memory to the chain, and ignores bytes after the longest request or reply
+ * buffer. Returns -1 if there are too many pieces. */
 static int add_piece(struct worker *w, unsigned char *at, const nizwarf_piece *piece)
 {
 	const size_t left = LONGEST - (piece->writable ? w->room_len : w->len);
@@ -267,9 +272,9 @@ static int add_piece(struct worker *w, unsigned char *at, const nizwarf_piece *p
 	return 0;
 }
 
-/* Reads the chain that begins at this descriptor: the pieces of the request come first, then those of the
- * room. -1: it is none. A descriptor has two words of 8 bytes. The walk bounds how many there are, so a
- * chain in a circle ends too. */
+/* Reads the chain that begins at the descriptor `head`: the pieces of the request come first, then those of
+ * the reply buffer. Returns -1 if it is invalid. A descriptor has two words of 8 bytes. The walk limits the
+ * number of descriptors, so it also ends for a cycle. */
 static int take_chain(struct worker *w, const struct guest *g, const struct queue *q, uint16_t head)
 {
 	const unsigned char *table = q->descriptors;
@@ -288,12 +293,12 @@ static int take_chain(struct worker *w, const struct guest *g, const struct queu
 	do {
 		w->places += table == q->descriptors;
 		memcpy(word, table + (size_t)walk.at * sizeof(word), sizeof(word));
-		/* What is checked is what was copied. */
+		/* The copy must be checked, so the compiler must not read the guest's memory again. */
 		__atomic_signal_fence(__ATOMIC_SEQ_CST);
 		step = nizwarf_chain_step_at(&walk, word[0], word[1], g->shared, g->regions, &piece);
 		if (step > NIZWARF_CHAIN_TABLE)
 			return -1;
-		/* (a piece, or an indirect table, lies wholly in that region) */
+		/* A piece, or an indirect table, lies completely in this region. */
 		at = g->region[piece.region].at + piece.offset;
 		if (step == NIZWARF_CHAIN_TABLE)
 			table = at;
@@ -303,9 +308,9 @@ static int take_chain(struct worker *w, const struct guest *g, const struct queu
 	return 0;
 }
 
-/* What is kept of a chain whose request is answered later: to which queue it goes back, and by which
- * number. A chain whose room is in more than KEPT_ROOMS pieces is not kept, so what is kept has one size.
- * The pieces are where the memory was mapped as it was taken. */
+/* The data of a chain whose request is completed later: its queue, its head, and its reply buffer, as the
+ * memory was mapped when the chain was taken. A request whose reply buffer has more than KEPT_ROOMS pieces
+ * cannot be kept, so that these data have a fixed size. */
 enum { KEPT_ROOMS = 8 };
 struct kept {
 	struct queue *q;
@@ -314,8 +319,8 @@ struct kept {
 	struct iovec room[KEPT_ROOMS];
 };
 
-/* The answer to it, in a list of its queue. It is allocated by send_kept(), and freed by who gives the
- * chain back or forgets it. */
+/* A late reply, in a list of its queue. send_kept() allocates it, and the thread that completes or drops the
+ * chain frees it. */
 struct late {
 	struct late *next;
 	struct kept kept;
@@ -324,9 +329,10 @@ struct late {
 	unsigned char reply[];
 };
 
-/* Leaves the answer to a worker, which writes it into the guest's memory. Without memory for it the request
- * is completed as one that was refused: the guest would wait for ever otherwise. Any thread may call it, by
- * nizwarf_request_complete(): so it does not have `in_flight`, and touches no memory of the guest. */
+/* Queues a late reply for a worker, which copies it into the guest's memory. Without memory for the reply the
+ * request is completed as a rejected one, because the guest would wait for ever otherwise. Any thread may
+ * call this, by nizwarf_request_complete(), so it does not hold `in_flight` and must not access the guest's
+ * memory. */
 static void send_kept(void *about, int32_t code, const void *reply, size_t len)
 {
 	const struct kept *kept = about;
@@ -350,16 +356,16 @@ static void send_kept(void *about, int32_t code, const void *reply, size_t len)
 	queue_look(kept->q);
 }
 
-/* The number is the guest's own: it stays what it is when the front end goes, and the next one has another. */
+/* The number belongs to the guest, so it does not change when the front end disconnects. */
 unsigned vhost_user_client(void)
 {
 	return this_worker ? atomic_load(&this_worker->serves)->client : 0;
 }
 
-/* Hands a chain to `serve`, which may keep it, if it can be called back. Answers whether it does: then it
- * may be completed already, and the worker may take the next chain. nizwarf_request_keep() copies `kept`, which
- * so may stand here. Those that are kept take half of the queue at most: they may wait for what another request does, as
- * the unlocking of a lock, for which there must be a place. */
+/* Passes a chain to `serve`, which may keep the request if it can be recalled. Returns whether it was kept:
+ * it may then be completed already, and the worker may take the next chain. nizwarf_request_keep() copies
+ * `kept`, so that may be on the stack. Kept requests may use at most half of the queue, because they may wait
+ * for another request, such as one that releases a lock, which needs a place too. */
 static int ask(struct worker *w, struct guest *g, struct queue *q, uint16_t head, int32_t *code, size_t *len)
 {
 	struct kept kept;
@@ -384,9 +390,9 @@ static int ask(struct worker *w, struct guest *g, struct queue *q, uint16_t head
 	return later_keeps(&source, *code);
 }
 
-/* Answers the chain, and gives the length that completes it: 0 for a refused request, and for one without a
- * reply, as FORGET, INTERRUPT and DESTROY. These are completed too, or the guest waits for ever, and so is
- * what is no chain. -1: it is answered later. */
+/* Serves the chain, and returns the length that completes it, or -1 if it is completed later. The length is 0
+ * for a rejected request, and for one without a reply, such as FORGET, INTERRUPT and DESTROY. These must be
+ * completed too, and also an invalid chain, because the guest would wait for ever otherwise. */
 static int64_t answer(struct worker *w, struct guest *g, struct queue *q, uint16_t head)
 {
 	size_t len = 0;
@@ -396,7 +402,8 @@ static int64_t answer(struct worker *w, struct guest *g, struct queue *q, uint16
 		note(BAD_CHAIN);
 		return 0;
 	}
-	/* (to read a guest's memory may take as long as its front end wants: one that has gone meanwhile asks for nothing) */
+	/* Reading a guest's memory may take as long as its front end wants. A front end that has disconnected
+	 * meanwhile needs no reply. */
 	if (atomic_load(&g->gone))
 		return 0;
 	transport_withhold(by, w->request, w->copied);
@@ -406,28 +413,28 @@ static int64_t answer(struct worker *w, struct guest *g, struct queue *q, uint16
 	return (int64_t)len;
 }
 
-/* Wakes a worker for this queue, unless one was woken that has not looked yet. Each queue must have an event
- * of its own: edges of a shared one would merge, and the worker that took it could be busy with one queue
- * while others wait and workers sleep. A queue without an event has had no kick, so it has no chains. Any
- * thread may call it. */
+/* Wakes a worker for this queue, unless one was woken that has not looked at it yet. Each queue must have an
+ * event of its own: the edges of a shared one would merge, so that a worker could be busy with one queue
+ * while others wait and workers sleep. A queue without an event was never kicked, so it has no chains. Any
+ * thread may call this. */
 void queue_look(struct queue *q)
 {
 	if (q->look >= 0 && !atomic_exchange(&q->is_woken, 1))
 		tell(q->look);
 }
 
-/* How many chains wait, by the `idx` of the available ring, which the guest may have set to anything; -1:
- * more than can. */
+/* Returns how many chains wait, by the `idx` of the available ring, which the guest may have set to any
+ * value, or -1 if these are more than possible. */
 static int32_t count_waiting(const struct queue *q)
 {
 	return nizwarf_ring_waiting_at(__atomic_load_n(&q->available->idx, __ATOMIC_SEQ_CST), q->next,
 				       q->size);
 }
 
-/* The same, after a guest that goes by indices was told to kick for the next chain to come: by
- * `avail_event`, which is after the last entry of the used ring. (It writes its index, and then looks at
- * this one: one of both sees what the other did.) 0 if indices were not agreed on: then it kicks for each
- * chain, since no flag of the used ring is ever set here. */
+/* Enables the kick for the next chain by `avail_event`, which follows the last entry of the used ring, and
+ * counts the waiting chains again. The guest writes its index before it reads this one, so at least one side
+ * sees the other's write. Without VIRTIO_RING_F_EVENT_IDX it returns 0: the guest then kicks for each chain,
+ * because no flag of the used ring is ever set here. */
 static int32_t await_kick(const struct guest *g, struct queue *q)
 {
 	if (!q->has_events)
@@ -438,9 +445,9 @@ static int32_t await_kick(const struct guest *g, struct queue *q)
 	return count_waiting(q);
 }
 
-/* Has a guest that goes by indices kick for no chain until await_kick() is called: it sets an index that has
- * passed. The caller must look at the queue once more before it sleeps, since a chain that comes meanwhile
- * wakes nobody. The lock of the queue is held. */
+/* Disables kicks until await_kick() is called, by an index that has passed, with VIRTIO_RING_F_EVENT_IDX. The
+ * caller must look at the queue again before it sleeps, because a chain that arrives meanwhile wakes nobody.
+ * The lock of the queue must be held. */
 static void hold_kicks(const struct guest *g, struct queue *q)
 {
 	if (!q->has_events)
@@ -450,13 +457,13 @@ static void hold_kicks(const struct guest *g, struct queue *q)
 		mark_used(g, q, q->used->ring + q->size, sizeof(q->next));
 }
 
-/* What is in place of a chain: none waits; one may, but a message or an answer that came late is first; or the
- * rings are invalid. */
+/* Results other than a chain: none waits; a message or a late reply must be handled before the next chain; or
+ * the rings are invalid. */
 enum { NO_CHAIN = -1, NOT_YET = -2, INVALID = -3 };
 
-/* Takes the number of the next chain. There is none if the queue is not enabled or has no kick, and so is
- * stopped. A queue whose rings are invalid is stopped until a message places them anew. The lock of the queue
- * is held. */
+/* Takes the number of the next chain. Returns NO_CHAIN if the queue is disabled, or stopped because it has no
+ * kick. A queue whose rings are invalid is stopped until a message sets them again. The lock of the queue
+ * must be held. */
 static int take_head(const struct guest *g, struct queue *q)
 {
 	int32_t waiting;
@@ -476,15 +483,15 @@ static int take_head(const struct guest *g, struct queue *q)
 		return INVALID;
 	}
 	q->next++;
-	/* This one may take long, and another worker may be free. */
+	/* This request may take long, so another worker should serve the next chain. */
 	if (by->workers > 1 && (await_kick(g, q) || waiting > 1))
 		queue_look(q);
 	return head;
 }
 
-/* Whether the guest wants to be told of the chain that was given back last: by the flag
- * VRING_AVAIL_F_NO_INTERRUPT, or by `used_event`, which is after the last entry of the available ring. If
- * it lies there, it alone waits longer. The lock of the queue is held. */
+/* Whether the guest must be notified of the chain that was completed last: by the flag
+ * VRING_AVAIL_F_NO_INTERRUPT, or by `used_event`, which follows the last entry of the available ring. A guest
+ * that sets these incorrectly only delays itself. The lock of the queue must be held. */
 static int wants_call(struct queue *q)
 {
 	if (!q->calls)
@@ -501,9 +508,9 @@ static int wants_call(struct queue *q)
 		(uint16_t)(q->done - 1));
 }
 
-/* Gives a chain back to the guest, as `len` bytes of its room: first the entry, and then the index, which
- * makes that valid. Answers whether it wants to be told. The lock of the queue is held. A queue that was
- * left gets nothing back. */
+/* Completes a chain with `len` bytes of its reply buffer. The entry must be written before the index, which
+ * makes it valid. Returns whether the guest must be notified. Does nothing if the queue is stopped. The lock
+ * of the queue must be held. */
 static int complete(const struct guest *g, struct queue *q, uint16_t head, uint32_t len)
 {
 	if (!q->available)
@@ -511,17 +518,18 @@ static int complete(const struct guest *g, struct queue *q, uint16_t head, uint3
 	q->used->ring[nizwarf_ring_slot_at(q->done, q->size)] = (struct vring_used_elem){ head, len };
 	q->done++;
 	TO_GUEST();
-	/* (the guest sets its flag or its index, and then looks at the number: one of both sees what the other did) */
+	/* The guest sets its flag or index before it reads this index, so at least one side sees the other's
+	 * write. */
 	__atomic_store_n(&q->used->idx, q->done, __ATOMIC_SEQ_CST);
 	if (g->logs)
 		mark_given(g, q);
 	return wants_call(q);
 }
 
-/* Tells the guest that a chain is done. A front end can have this wait, as long as its event is full, since
- * it can take O_NONBLOCK away from what it shares: then it is interrupted once the front end has gone. So
- * the lock of the queue is not held, but `in_flight` is, and nobody closes the descriptor meanwhile. Where
- * writing fails otherwise it is told no more. */
+/* Notifies the guest of completed chains. The write blocks if the event is full and the front end has cleared
+ * O_NONBLOCK, which it can because it shares the open file; the worker is then interrupted after the front
+ * end has disconnected. So the lock of the queue must not be held, but `in_flight` must be, so that nobody
+ * closes the descriptor. After another error the guest is no longer notified. */
 static void call_guest(struct queue *q)
 {
 	const uint64_t one = 1;
@@ -534,13 +542,14 @@ static void call_guest(struct queue *q)
 	pthread_mutex_unlock(&q->lock);
 }
 
-/* Whether an answer came late. (Who leaves one has the queue looked at then.) */
+/* Whether there is a late reply. A stale result is harmless, because the thread that has queued the reply
+ * wakes a worker afterwards. */
 static int has_late(struct queue *q)
 {
 	return __atomic_load_n(&q->late, __ATOMIC_RELAXED) != NULL;
 }
 
-/* Takes the next answer that came late, which is the caller's to free; NULL: there is none. */
+/* Takes the next late reply, which the caller must free, or returns NULL. */
 static struct late *take_late(struct queue *q)
 {
 	struct late *late;
@@ -553,9 +562,9 @@ static struct late *take_late(struct queue *q)
 	return late;
 }
 
-/* Gives the chain back to whose request an answer came late, if there is one. Whether there was. A reply
- * that is longer than the room is cut, and its length is what was put. Marks come after the bytes, and the
- * chain goes back after both, so that a machine that migrates has all that its guest was told of. */
+/* Completes the chain of a late reply, if there is one, and returns whether there was. A reply that is longer
+ * than the reply buffer is truncated. Bytes must be marked after they are written, and the chain must be
+ * completed after both, so that a machine that migrates has all data that its guest was notified of. */
 static int serve_late(struct guest *g, struct queue *q)
 {
 	struct late *late = take_late(q);
@@ -583,8 +592,8 @@ static int serve_late(struct guest *g, struct queue *q)
 	return 1;
 }
 
-/* Takes the next chain, and returns its number, or what is in its place. Nothing is taken of a front end that
- * has gone. The lock of the queue is held. */
+/* Takes the next chain and returns its number, or why there is none. Nothing is taken after the front end has
+ * disconnected. The lock of the queue must be held. */
 static int take_next(const struct guest *g, struct queue *q)
 {
 	if (atomic_load(&g->gone))
@@ -592,11 +601,11 @@ static int take_next(const struct guest *g, struct queue *q)
 	return atomic_load(&g->wanted) || has_late(q) ? NOT_YET : take_head(g, q);
 }
 
-/* Gives a chain back, if it is one, and takes the next; returns its number, or what is in its place. If a
- * chain waits already, it is taken with the lock held once. If none does, the guest is called first, and the
- * queue is looked at after that: the call takes about as long as a guest that has one request in flight needs
- * for the next one, which then needs no kick, and this worker does not go to sleep to be woken at once. A
- * front end that has gone gets nothing back. */
+/* Completes the chain `head`, unless that is negative, and takes the next one. Returns its number, or why
+ * there is none. If a chain waits already, it is taken under the same lock. Otherwise the guest is notified
+ * before the queue is checked again: that takes about as long as a guest with one request in flight needs for
+ * the next one. This then needs no kick, and the worker does not fall asleep only to be woken at once. After
+ * the front end has disconnected nothing is completed. */
 static int next_chain(struct guest *g, struct queue *q, int head, int64_t len)
 {
 	int calls, calls_first, next = NO_CHAIN;
@@ -623,8 +632,9 @@ static int next_chain(struct guest *g, struct queue *q, int head, int64_t len)
 	return next;
 }
 
-/* Answers what waits in a queue, up to where something else is first. Whether that is so. The caller has
- * `in_flight`, and no other lock: a request may take as long as it wants. */
+/* Serves the chains of a queue until none is left, or something else must be done first. Returns whether the
+ * latter is the case. The caller must hold `in_flight` and no other lock, because a request may take any
+ * time. */
 static int serve_chains(struct worker *w, struct guest *g, struct queue *q)
 {
 	int head = NO_CHAIN;
@@ -642,8 +652,8 @@ static int serve_chains(struct worker *w, struct guest *g, struct queue *q)
 	}
 }
 
-/* The guest that is served now, with a user more: it is there until put_guest(), even if its front end
- * goes. */
+/* Returns the current guest with an additional user. It stays valid until put_guest(), even if its front end
+ * disconnects. */
 static struct guest *take_guest(void)
 {
 	struct guest *g;
@@ -655,7 +665,7 @@ static struct guest *take_guest(void)
 	return g;
 }
 
-/* Forgets answers whose guest has gone. */
+/* Drops late replies of a guest that has disconnected. */
 static void drop_late(struct guest *g)
 {
 	struct late *late;
@@ -665,8 +675,8 @@ static void drop_late(struct guest *g)
 			free(late);
 }
 
-/* Gives a guest up. The last user frees it, with the memory and the descriptors that the front end shared:
- * no thread can have it any more, so no lock is taken for that. */
+/* Drops a user of a guest. The last one frees the guest, with the memory and the descriptors that the front
+ * end has shared. No other thread can have it then, so this needs no lock. */
 static void put_guest(struct guest *g)
 {
 	unsigned users;
@@ -694,8 +704,8 @@ static void put_guest(struct guest *g)
 	free(g);
 }
 
-/* Serves what waits in a queue. Where the calling thread waits for `in_flight`, the worker lets go of it, and
- * has it again after that one. */
+/* Serves the chains of a queue. If the calling thread waits for `in_flight`, the worker releases it, and
+ * takes it again afterwards. */
 static void serve_queue(struct worker *w, uint32_t number)
 {
 	struct guest *g = take_guest();
@@ -703,7 +713,8 @@ static void serve_queue(struct worker *w, uint32_t number)
 	int more;
 
 	atomic_store(&w->serves, g);
-	/* (first: who wakes a worker for this queue from here on wakes another one, or this one sees why) */
+	/* This must come first: a thread that wants this queue served from here on either wakes another
+	 * worker, or this one sees its chain. */
 	atomic_store(&q->is_woken, 0);
 	do {
 		pthread_rwlock_rdlock(&g->in_flight);
@@ -716,8 +727,8 @@ static void serve_queue(struct worker *w, uint32_t number)
 	put_guest(g);
 }
 
-/* A worker's thread. It ends once the event `stop` is told, which stays so for the others, or if it fails,
- * of which `over` tells. Where `begin` fails there is no `end`. */
+/* The thread of a worker. It ends after the event `stop`, which stays readable for the others, or when it
+ * fails, and then writes the event `over`. If `begin` fails, `end` must not be called. */
 static void *run(void *given)
 {
 	struct worker *w = given;
@@ -747,19 +758,20 @@ static void *run(void *given)
 	return NULL;
 }
 
-/* The handler of SIGBUS. A front end can cut the file that its memory is of. Where that memory was are
- * zeros from then on, so that the worker goes on, up to when the front end is hung up on. It is mapped over
- * at the same place, with the same length, so what unmaps the region later unmaps that. Only what a handler
- * may call is called. A fault anywhere else, or of a thread that serves none, is a fault of the program. */
+/* The handler of SIGBUS, which comes if a front end truncates the file of its memory. It maps zeros in place
+ * of the region, so that the worker can continue until the front end is disconnected. The new mapping has the
+ * same place and length, so that it can be unmapped like the region. The handler may call only
+ * async-signal-safe functions. A fault at any other address, or in a thread that serves no guest, is a bug of
+ * the program. */
 static void lose_memory(int number, siginfo_t *about, void *context)
 {
 	const uintptr_t at = (uintptr_t)about->si_addr;
 	const struct guest *g = this_worker ? atomic_load(&this_worker->serves) : NULL;
-	/* (what was interrupted may be about to read it) */
+	/* The interrupted code may be about to read errno. */
 	const int kept = errno;
 
 	(void)context;
-	/* (after the regions: the log) */
+	/* The log follows the regions. */
 	for (size_t i = 0; g && i <= g->regions; i++) {
 		unsigned char *map = i < g->regions ? g->region[i].map : g->log.map;
 		const size_t mapped = i < g->regions ? g->region[i].mapped : g->log.mapped;
@@ -767,7 +779,8 @@ static void lose_memory(int number, siginfo_t *about, void *context)
 
 		if (at < from || at - from >= mapped)
 			continue;
-		/* (by itself: a sanitizer takes mmap() for a write to what another worker reads) */
+		/* This is a direct system call, because a sanitizer regards mmap() as a write to memory that
+		 * another worker reads. */
 		if (syscall(SYS_mmap, map, mapped, PROT_READ | PROT_WRITE,
 			    MAP_PRIVATE | MAP_ANONYMOUS | MAP_NORESERVE | MAP_FIXED, -1, 0) == -1)
 			break;
@@ -776,14 +789,15 @@ static void lose_memory(int number, siginfo_t *about, void *context)
 		errno = kept;
 		return;
 	}
-	/* (it comes again, and ends the process) */
+	/* The fault is repeated, and ends the process. */
 	signal(number, SIG_DFL);
 }
 
 /* ---- queues and workers, by the calling thread */
 
-/* A ring by its address in the front end, as SET_VRING_ADDR gives it, in one region and aligned as it must
- * be, or NULL. Addresses of a message are aligned, but a region may begin anywhere in a page. */
+/* Returns the pointer to a ring, whose address in the front end is that of SET_VRING_ADDR, or NULL if it is
+ * not in one region or not aligned. The address itself is aligned, but a region may begin anywhere in a
+ * page. */
 static void *ring_at(uint64_t address, uint64_t len, uintptr_t align)
 {
 	unsigned char *at;
@@ -796,8 +810,8 @@ static void *ring_at(uint64_t address, uint64_t len, uintptr_t align)
 }
 
 /* An available ring has two fields of 2 bytes and an entry of 2 bytes for each chain, a used ring the same
- * fields and entries of 8 bytes. With indices each has one of 2 bytes more at its end. No `available` means
- * that no chain is taken. */
+ * fields and entries of 8 bytes. With VIRTIO_RING_F_EVENT_IDX each has 2 more bytes at its end. If
+ * `available` is NULL, no chain is taken. */
 void queue_place(struct queue *q)
 {
 	const uint64_t size = q->size, event = q->has_events ? sizeof(uint16_t) : 0;
@@ -810,21 +824,21 @@ void queue_place(struct queue *q)
 		q->available = NULL;
 }
 
-/* No worker is about to write to the one before: the caller has `in_flight` for writing. */
+/* The caller must hold `in_flight` for writing, so that no worker writes to the old descriptor. */
 void queue_call(struct queue *q, int fd)
 {
 	if (q->call >= 0)
 		close(q->call);
 	q->call = fd;
 	q->calls = fd >= 0;
-	/* (what was given back meanwhile was not told) */
+	/* The guest was not notified of chains that were completed meanwhile. */
 	q->calls_anyway = 1;
 	if (fd >= 0)
 		fcntl(fd, F_SETFL, O_NONBLOCK);
 }
 
-/* Has workers wait for an event of a queue. A worker is told of each write, so none is read: each write to an
- * event is an edge of its own. -1: it failed, with errno. */
+/* Adds an event of a queue to those that wake workers. Each write to it is an edge of its own and wakes a
+ * worker, so it need not be read. Returns -1 with errno on failure. */
 static int await_event(const struct queue *q, int fd)
 {
 	struct epoll_event event = { .events = EPOLLIN | EPOLLET,
@@ -833,8 +847,8 @@ static int await_event(const struct queue *q, int fd)
 	return epoll_ctl(events, EPOLL_CTL_ADD, fd, &event);
 }
 
-/* Makes the event of a queue, which stays until the front end goes: answers may come late after its kick was
- * taken away. -1: it failed, with errno. */
+/* Makes the event of a queue. It stays until the front end disconnects, because late replies may come after
+ * the kick was removed. Returns -1 with errno on failure. */
 static int begin_look(struct queue *q)
 {
 	const int event = eventfd(0, EFD_CLOEXEC | EFD_NONBLOCK);
@@ -849,8 +863,8 @@ static int begin_look(struct queue *q)
 	return 0;
 }
 
-/* No request of the queue is kept any more, so no thread is about to write to the event. It may have been
- * closed before a worker took it, so nobody counts as woken. */
+/* No request of the queue is kept any more, so no thread will write to the event. It may be closed before a
+ * worker has handled it, so the queue must not count as woken. */
 void queue_end_look(struct queue *q)
 {
 	if (q->look >= 0)
@@ -859,8 +873,8 @@ void queue_end_look(struct queue *q)
 	atomic_store(&q->is_woken, 0);
 }
 
-/* A front end that kicks without end has a worker look at an empty queue, and no more. What epoll can't wait
- * for, as a file, is refused. */
+/* A front end that kicks continuously only makes a worker look at an empty queue. A descriptor that epoll
+ * does not support, such as a regular file, is rejected. */
 int queue_kick(struct queue *q, int fd)
 {
 	if (q->kick >= 0) {
@@ -874,7 +888,7 @@ int queue_kick(struct queue *q, int fd)
 	return (q->look < 0 && begin_look(q)) || await_event(q, fd) ? -1 : 0;
 }
 
-/* The time that many milliseconds from now. */
+/* Returns the time after this number of milliseconds. */
 static struct timespec after(int milliseconds, clockid_t clock)
 {
 	struct timespec time;
@@ -893,8 +907,8 @@ static int has_passed(const struct timespec *time)
 	return now.tv_sec > time->tv_sec || (now.tv_sec == time->tv_sec && now.tv_nsec > time->tv_nsec);
 }
 
-/* Waits up to so long until no request is in flight, and holds `in_flight` for writing then: 0. Otherwise
- * it is an error, and nothing is held. (pthread_rwlock_timedwrlock() goes by CLOCK_REALTIME.) */
+/* Waits a limited time until no request is in flight, and takes `in_flight` for writing. Returns 0, or an
+ * error number if it was not taken. (pthread_rwlock_timedwrlock() uses CLOCK_REALTIME.) */
 static int try_hold(int milliseconds)
 {
 	const struct timespec most = after(milliseconds, CLOCK_REALTIME);
@@ -906,8 +920,8 @@ static int try_hold(int milliseconds)
 	return late;
 }
 
-/* While it waits no worker takes a chain. So it rests in between, and one request that takes long holds up
- * the others for a part of the time alone. At -1 the caller hangs up. */
+/* While this waits for the lock, no worker takes a chain. So it pauses in between, and a request that takes
+ * long delays the others for only a part of the time. After -1 the caller must disconnect the front end. */
 int queues_hold(int signals, int client)
 {
 	struct pollfd wait[] = { { signals, POLLIN, 0 }, { client, POLLRDHUP, 0 } };
@@ -923,7 +937,7 @@ void queues_go(void)
 	pthread_rwlock_unlock(&vhost_guest->in_flight);
 }
 
-/* Has workers look at each queue with an answer that came late. Whether there is one. */
+/* Makes workers look at each queue with a late reply. Returns whether there is one. */
 static int look_at_late(struct guest *g)
 {
 	int any = 0;
@@ -937,9 +951,9 @@ static int look_at_late(struct guest *g)
 	return any;
 }
 
-/* An answer that came late goes into memory as it was when its request was taken. So workers give all of them
- * back before that may change: after queues_recall() no more come. Workers that are busy have not looked yet; if
- * one failed, all is to end. */
+/* A late reply is copied into memory as that was mapped when its request was taken. So workers must complete
+ * all of them before the mapping may change. No more come after queues_recall(). Busy workers may not have
+ * looked yet, so this repeats. Returns -1 also if a worker has failed. */
 int queues_hold_answered(int signals, int client)
 {
 	struct pollfd wait[] = { { signals, POLLIN, 0 }, { client, POLLRDHUP, 0 }, { over, POLLIN, 0 } };
@@ -954,7 +968,7 @@ int queues_hold_answered(int signals, int client)
 	return -1;
 }
 
-/* No worker uses the memory: the caller has `in_flight` for writing, or is the last user. */
+/* No worker may use the memory: the caller must hold `in_flight` for writing, or be the last user. */
 void guest_unshare(struct guest *g)
 {
 	while (g->regions > 0) {
@@ -1012,9 +1026,9 @@ void queues_tell(void)
 	}
 }
 
-/* What the next front end shares into, with the calling thread as its user; NULL: there is no memory. The
- * lock of what is in flight goes to who wants it for writing first, or workers that take turns would keep
- * that one out for ever. */
+/* Allocates the guest of the next front end, with the calling thread as its user. Returns NULL if out of
+ * memory. `in_flight` must prefer writers, because workers that take turns could otherwise keep the calling
+ * thread out for ever. */
 static struct guest *new_guest(void)
 {
 	struct guest *g = calloc(1, sizeof(*g));
@@ -1034,14 +1048,15 @@ static struct guest *new_guest(void)
 	return g;
 }
 
-/* The handler of SIGRTMIN, which does nothing: a call that waits ends with EINTR, since it is set without
- * SA_RESTART. */
+/* The handler of SIGRTMIN does nothing. Because it is installed without SA_RESTART, a call that blocks fails
+ * with EINTR. */
 static void interrupted(int number)
 {
 	(void)number;
 }
 
-/* Makes what workers wait for: events. That of the end, which nobody reads, wakes all that there are. -1: it failed, and said why; queues_end() closes what was made. */
+/* Makes the events. The event `stop` is never read, so it wakes all workers. Returns -1 after printing an
+ * error; queues_end() closes the events that were made. */
 static int make_events(void)
 {
 	struct epoll_event stops = { .events = EPOLLIN, .data.u32 = STOP };
@@ -1061,7 +1076,7 @@ static int make_events(void)
 	return 0;
 }
 
-/* Starts the next worker, whose number is how many there were. -1: it failed, and said why. */
+/* Starts the next worker, whose number is how many there were before. Returns -1 after printing an error. */
 static int start_worker(void)
 {
 	struct worker *w = calloc(1, sizeof(*w));
@@ -1089,8 +1104,9 @@ int queues_begin(const nizwarf_transport *with)
 	return 0;
 }
 
-/* Lets requests that take long go on with EINTR, as a call of the kernel or a write to the front end's
- * event. Who is about to wait is interrupted the next time: it is called again until all are back. */
+/* Interrupts requests that take long, such as a blocked system call or a write to the front end's event,
+ * which then fail with EINTR. A worker that was only about to block is interrupted by the next call, because
+ * this is repeated until all have returned. */
 static void interrupt(void)
 {
 	for (unsigned i = 0; i < started; i++)
@@ -1098,7 +1114,7 @@ static void interrupt(void)
 			pthread_kill(workers[i]->thread, SIGRTMIN);
 }
 
-/* Frees workers that have ended. Answers how many have not. */
+/* Joins finished workers, and returns how many are still running. */
 static unsigned join_workers(void)
 {
 	unsigned left = 0;
@@ -1114,9 +1130,9 @@ static unsigned join_workers(void)
 	return left;
 }
 
-/* Leaves what a front end shared to the workers that still use it, and begins others in their place, as far
- * as there may be more. 1, or -1: it failed, and said why. The last of those workers frees it. If some
- * never come back, one front end after another may use up NIZWARF_MAX_WORKERS, and fewer serve then. */
+/* Leaves the guest to the workers that still use it, and starts others in their place, up to the limit.
+ * Returns 1, or -1 after printing an error. The last of these workers frees the guest. If some never return,
+ * successive front ends may exhaust NIZWARF_MAX_WORKERS, and then fewer workers serve. */
 static int leave_guest(void)
 {
 	struct guest *gone = vhost_guest, *next = new_guest();
@@ -1125,7 +1141,7 @@ static int leave_guest(void)
 	if (!next)
 		return failed("accept another front end");
 	next->client = gone->client + 1;
-	/* (what it is kicked by is closed with it, and wakes nobody meanwhile) */
+	/* The kicks are closed with the guest, and must not wake workers until then. */
 	for (int i = 0; i < QUEUES; i++)
 		if (gone->queue[i].kick >= 0)
 			epoll_ctl(events, EPOLL_CTL_DEL, gone->queue[i].kick, NULL);
@@ -1144,8 +1160,8 @@ static int leave_guest(void)
 	return 1;
 }
 
-/* Whether nothing is kept, and no answer is to be given back. Nothing more can be kept as it is called. (What is
- * kept is asked first: it becomes an answer, and never the other way round.) */
+/* Whether no request is kept and no late reply is left. Nothing more may be kept when it is called. The kept
+ * requests must be checked first, because one becomes a late reply, but never vice versa. */
 static int is_answered(struct guest *g)
 {
 	if (!later_is_empty(&g->later))
@@ -1156,7 +1172,7 @@ static int is_answered(struct guest *g)
 	return 1;
 }
 
-/* It is called without `in_flight`, so that workers give back what is answered now. */
+/* This is called without `in_flight`, so that workers can complete the requests. */
 void queues_recall(void)
 {
 	const struct timespec most = after(MOST, CLOCK_MONOTONIC), pause = { 0, 1000000 };
@@ -1175,7 +1191,7 @@ void queues_keep(void)
 	later_open(&vhost_guest->later);
 }
 
-/* Once `gone` is set no chain is taken or completed. At the answer 0 `in_flight` is held for writing, and
+/* Once `gone` is set, no chain is taken or completed. If it returns 0, `in_flight` is held for writing, and
  * the same guest serves the next front end. */
 int queues_part(int signals)
 {
@@ -1200,8 +1216,8 @@ int queues_part(int signals)
 	return 0;
 }
 
-/* The event `stop` wakes all workers, since nobody reads it. One that waits in a request is interrupted
- * time after time. With -1 nothing is freed, since that one may still use it: the process ends then. */
+/* The event `stop` is never read, so it wakes all workers. A blocked worker is interrupted repeatedly. After
+ * -1 nothing is freed, because that worker may use it; the process must end then. */
 int queues_end(void)
 {
 	const struct timespec interrupts = after(INTERRUPTS, CLOCK_MONOTONIC),
