@@ -1,12 +1,12 @@
-/* The state of a device, as it goes: vhost_state.h.
+/* Transfers the state of a device: vhost_state.h.
  *
- * It goes by the descriptor of SET_DEVICE_STATE_FD, on the calling thread of vhost_user.c, while no request
- * is in flight. What the bytes are the file system says; here they are only moved. The other end is the
- * front end's, which may read or write as slowly as it likes, or not at all. So a wait must end when a signal
- * comes or the front end goes, and has no other end: await() waits for these too. read(2) and write(2) should
- * not wait, since the descriptor has O_NONBLOCK, but this flag is of the open file that the front end also
- * has, which may clear it at any time. So a timer interrupts them again and again, and each time await() looks
- * whether it is to go on. */
+ * The state is transferred by the descriptor of SET_DEVICE_STATE_FD, on the calling thread of vhost_user.c,
+ * while no request is in flight. The file system defines its bytes; here they are only moved. The other end
+ * belongs to the front end, which may read or write as slowly as it likes, or not at all. So a wait must end
+ * when a signal comes or the front end disconnects, and only then: await() waits for these too. read(2) and
+ * write(2) should not block, because the descriptor has O_NONBLOCK, but the front end has the same open file
+ * and may clear that flag at any time. So a timer interrupts them repeatedly, and each time await() checks
+ * whether to go on. */
 #define _GNU_SOURCE
 #include <errno.h>
 #include <fcntl.h>
@@ -18,21 +18,21 @@
 #include <unistd.h>
 #include "vhost_state.h"
 
-/* (older C libraries have no other name for it) */
+/* Older C libraries have no other name for it. */
 #ifndef sigev_notify_thread_id
 #define sigev_notify_thread_id _sigev_un._tid
 #endif
 
-/* In bytes: what is put is written, and what comes is read, that much at once. In milliseconds: how long a call
- * may wait. */
+/* In bytes: how much is read or written at a time (BUFFER). In milliseconds: how long a call may block
+ * (TICK). */
 enum { BUFFER = 65536, TICK = 200 };
 
 struct transport_state {
 	int descriptor, signals, client;
-	/* Sends SIGRTMIN to the calling thread, whose handler does nothing (vhost_queue.c). */
+	/* Sends SIGRTMIN to the calling thread. Its handler does nothing (vhost_queue.c). */
 	timer_t timer;
-	/* What was put, and is not written yet; or what came, and was not got yet: the bytes of the buffer
-	 * from `at` up to `end`. A state goes one way. */
+	/* The bytes of the buffer from `at` to `end` were put but not written yet, or read but not taken yet.
+	 * A state goes in one direction. */
 	size_t at, end;
 	int puts;
 	unsigned char buffer[BUFFER];
@@ -58,9 +58,9 @@ transport_state *state_new(int descriptor, int signals, int client)
 	return state;
 }
 
-/* Waits for the descriptor, at most `most` milliseconds, and for ever with -1: 0, or -1 with errno, which
- * is ECANCELED where a signal came or the front end has gone. 0 does not say that the descriptor is ready,
- * but that it may be tried: an error of it comes from read(2) or write(2). */
+/* Waits for the descriptor, at most `most` milliseconds, or for ever with -1. Returns 0, or -1 with errno,
+ * which is ECANCELED if a signal came or the front end has disconnected. After 0 the descriptor need not be
+ * ready, but a call may be tried; read(2) or write(2) return its errors. */
 static int await(const transport_state *state, short event, int most)
 {
 	struct pollfd wait[] = { { state->descriptor, event, 0 },
@@ -70,7 +70,7 @@ static int await(const transport_state *state, short event, int most)
 	while (poll(wait, 3, most) < 0)
 		if (errno != EINTR)
 			return -1;
-	/* (POLLHUP and POLLERR come without being asked for, and count as that the other has gone) */
+	/* POLLHUP and POLLERR are always reported, and mean that the other end has disconnected. */
 	errno = ECANCELED;
 	return wait[1].revents || wait[2].revents ? -1 : 0;
 }
@@ -80,14 +80,14 @@ int transport_wants_state(transport_state *of)
 	return await(of, 0, 0);
 }
 
-/* Whether what came to an error is to be tried again: the descriptor was not ready after all, or a signal's
- * handler ran. */
+/* Whether the call must be repeated, because the descriptor was not ready after all, or because of a
+ * signal. */
 static int is_for_now(void)
 {
 	return errno == EAGAIN || errno == EWOULDBLOCK || errno == EINTR;
 }
 
-/* Has the timer interrupt calls of this thread every `milliseconds` from now on; 0: no longer. */
+/* Makes the timer interrupt calls of this thread every `milliseconds` from now on, or stops it with 0. */
 static void set_timer(const transport_state *state, int milliseconds)
 {
 	const struct timespec tick = { 0, milliseconds * 1000000L };
@@ -96,9 +96,9 @@ static void set_timer(const transport_state *state, int milliseconds)
 	timer_settime(state->timer, 0, &ticks, NULL);
 }
 
-/* Waits until bytes may be moved, and writes those that were put, or reads into the buffer. Returns how many, or -1
- * with errno: is_for_now() says whether that is an error. The timer runs for this one call, since the file
- * system's own calls between two of them must not be interrupted. */
+/* Waits until bytes may be moved, and writes those of the buffer, or reads into it. Returns their number, or
+ * -1 with errno; is_for_now() says whether to repeat it. The timer runs only during this call, because the
+ * file system's own calls must not be interrupted. */
 static ssize_t move(transport_state *state, int writes)
 {
 	ssize_t done;
@@ -115,7 +115,7 @@ static ssize_t move(transport_state *state, int writes)
 	return done;
 }
 
-/* Writes what was put: 0, or -1 with errno, and then the save has failed. */
+/* Writes the bytes of the buffer. Returns 0, or -1 with errno, and then the save has failed. */
 static int flush(transport_state *to)
 {
 	while (to->at < to->end) {
@@ -130,8 +130,7 @@ static int flush(transport_state *to)
 	return 0;
 }
 
-/* The last bytes are written at the end alone, so who puts a whole state learns by state_end() whether it
- * went. */
+/* The last bytes are written by state_end(), so only its result says whether the whole state was written. */
 int transport_put_state(transport_state *to, const void *bytes, size_t len)
 {
 	to->puts = 1;
@@ -148,8 +147,8 @@ int transport_put_state(transport_state *to, const void *bytes, size_t len)
 	return 0;
 }
 
-/* Reads what comes next, once all that came was got: how many bytes, 0 at the end, which is where the front
- * end closes its end, or -1. */
+/* Fills the buffer after all its bytes were taken. Returns their number, 0 at the end, where the front end
+ * closes its descriptor, or -1. */
 static ssize_t fill(transport_state *from)
 {
 	ssize_t got;
@@ -162,7 +161,7 @@ static ssize_t fill(transport_state *from)
 	return got;
 }
 
-/* Bytes that don't come end the loop: so fewer than `len` are the last ones. */
+/* Returns fewer bytes than `len` only at the end. */
 ssize_t transport_get_state(transport_state *from, void *bytes, size_t len)
 {
 	size_t done = 0;
@@ -185,7 +184,7 @@ ssize_t transport_get_state(transport_state *from, void *bytes, size_t len)
 	return (ssize_t)done;
 }
 
-/* To close it is what tells the front end that nothing more comes. */
+/* The front end learns from close(2) that the state is complete. */
 int state_end(transport_state *state)
 {
 	int error = state->puts ? flush(state) : 0;

@@ -1,13 +1,15 @@
-/* The state of a device, as it goes: for vhost_user.c. */
+/* The transfer of a device's state, for vhost_user.c. */
 #ifndef VHOST_STATE_H
 #define VHOST_STATE_H
 
 #include "transport.h"
 
-/* Takes a descriptor, by which a state is put or got on this thread. It waits until a signal comes, or the front end has
- * gone. NULL: out of memory or timers, and the descriptor is closed. */
+/* Takes over a descriptor by which a state is saved or loaded on this thread. Each wait ends when a signal
+ * comes or the front end disconnects. Returns NULL if out of memory or timers, and then the descriptor is
+ * closed. */
 transport_state *state_new(int descriptor, int signals, int client);
-/* Closes it, with all that was put. -1: that can't be. */
+/* Writes what remains, closes the descriptor, and frees the state. Returns -1 if a part of it could not be
+ * written. */
 int state_end(transport_state *state);
 
 #endif
