@@ -1,16 +1,16 @@
 /* A transport for vhost-user: transport.h. It is the virtio-fs device of a virtual machine.
  *
- * The calling thread does what the front end's messages ask. The workers of vhost_queue.c wait for kicks of
- * any queue, and take one chain at a time, so as many requests are in flight as there are workers. Each
- * message waits until none is. A third thread waits for signals too, and ends the process if the others are
- * late.
+ * The calling thread handles the messages of the front end. The workers of vhost_queue.c wait for kicks of
+ * any queue and take one chain at a time, so at most as many requests are in flight as there are workers. A
+ * message is handled only while none is in flight. A third thread also waits for signals, and ends the
+ * process if the others are late.
  *
- * A front end is believed no more than a guest. What its bytes say is told by proved functions (border.h),
- * which refuse a message that is cut, of another size or with other descriptors than its request has, and
- * numbers that can't be. What it shares is mapped only if the file has that many bytes. One that breaks the
- * protocol, or sends a message in part, is hung up on, and the next one served. What it can still do is to
- * cut its file, which lose_memory() of vhost_queue.c handles, and to have calls wait that write to its own
- * descriptors, which are interrupted once it has gone. */
+ * A front end is trusted no more than a guest. Proved functions (border.h) decode its messages. They reject a
+ * message that is truncated, has a size or descriptors that its request does not permit, or has invalid
+ * numbers. Shared memory is mapped only if the file is long enough. A front end that violates the protocol,
+ * or does not complete a message, is disconnected, and the next one is served. It can still truncate its
+ * file, which lose_memory() of vhost_queue.c handles, and block calls that write to its descriptors, which
+ * are interrupted after it has disconnected. */
 #define _GNU_SOURCE
 #include <errno.h>
 #include <fcntl.h>
@@ -35,7 +35,8 @@
 #include "vhost_queue.h"
 #include "vhost_state.h"
 
-/* Messages of the front end: VHOST_USER_GET_FEATURES .. of the protocol, by their numbers. */
+/* The messages of the front end by their numbers: VHOST_USER_GET_FEATURES and its successors in the
+ * protocol. */
 enum {
 	GET_FEATURES = 1,
 	SET_FEATURES,
@@ -59,28 +60,27 @@ enum {
 	CHECK_DEVICE_STATE
 };
 
-/* Features, by the bits of GET_FEATURES: VIRTIO_F_VERSION_1, VHOST_USER_F_PROTOCOL_FEATURES, those of
- * rings, and VHOST_F_LOG_ALL. Then those of GET_PROTOCOL_FEATURES: MQ, LOG_SHMFD, REPLY_ACK and
- * DEVICE_STATE. */
+/* Features, by the bits of GET_FEATURES: VIRTIO_F_VERSION_1, VHOST_USER_F_PROTOCOL_FEATURES, those of rings,
+ * and VHOST_F_LOG_ALL. Then those of GET_PROTOCOL_FEATURES: MQ, LOG_SHMFD, REPLY_ACK and DEVICE_STATE. */
 #define VERSION_1 (1ull << 32)
 #define PROTOCOL_FEATURES (1ull << 30)
 #define INDIRECT_DESCRIPTORS (1ull << VIRTIO_RING_F_INDIRECT_DESC)
 #define EVENT_INDICES (1ull << VIRTIO_RING_F_EVENT_IDX)
 #define LOG_ALL (1ull << 26)
 enum { MANY_QUEUES = 1 << 0, LOG_IN_FILE = 1 << 1, REPLY_ACK = 1 << 3, DEVICE_STATE = 1 << 19 };
-/* What is answered to SET_DEVICE_STATE_FD: it is taken, and no other descriptor wanted. The low byte would
+/* The reply to SET_DEVICE_STATE_FD: the descriptor is used, and no other one is returned. The low byte would
  * be an error. */
 enum { TAKES_DESCRIPTOR = 1 << 8 };
-/* The flags of a header: the version, which is the low two bits, and that it is a reply. */
+/* The flags of a header: the version, in the low two bits, and the flag of a reply. */
 enum { VERSION = 1, IS_REPLY = 1 << 2 };
 
-/* What is offered to each front end: it does not change while one is served. The calling thread alone
- * changes what is static here. */
+/* The features for each front end, which must not change while one is served. Only the calling thread changes
+ * the static variables here. */
 static struct vhost_offer offer;
 
-/* A message as it came, and what it says. Its first `descriptors` descriptors are open, and are closed once
- * it was obeyed, unless they were taken. A payload is at most VHOST_MOST_BODY bytes, that of SET_MEM_TABLE
- * with 8 regions. */
+/* A message as it was received, and its decoded form. Its first `descriptors` descriptors are open, and are
+ * closed after it was handled, unless they were taken. The payload is at most VHOST_MOST_BODY bytes, which is
+ * that of SET_MEM_TABLE with 8 regions. */
 struct message {
 	unsigned char head[VHOST_HEAD], body[VHOST_MOST_BODY];
 	uint32_t size;
@@ -88,35 +88,35 @@ struct message {
 	struct vhost_message said;
 };
 
-/* Those queues that the front end named are before this one: only these can have something to do. */
+/* The queues that the front end has mentioned are below this number; only these can have requests. */
 static size_t queues;
 
 static const nizwarf_transport *by;
 static const nizwarf_machine *machine;
-/* The features of the protocol that the front end has set. */
+/* The protocol features that the front end has set. */
 static uint64_t protocol;
-/* What CHECK_DEVICE_STATE is answered: whether the last state was saved or loaded wholly. */
+/* The reply to CHECK_DEVICE_STATE: 0 if the last state was saved or loaded completely, and otherwise 1. */
 static uint64_t state_failed = 1;
 
-/* What came of a message: DONE if it was obeyed, REPLIED if it was answered too, so that it wants no other
- * reply; GONE if the front end hung up, or is to be hung up on. */
+/* The result of a message: DONE if it was handled, REPLIED if that included a reply, so that REPLY_ACK needs
+ * no other; GONE if the front end has disconnected, or must be disconnected. */
 enum outcome { DONE, REPLIED, GONE };
 
-/* Says on standard error what failed, and why by errno, and returns -1. */
+/* Prints what failed and why, by errno, and returns -1. */
 static int failed(const char *what)
 {
 	transport_say(by->program, "cannot %s: %s", what, strerror(errno));
 	return -1;
 }
 
-/* Says why the front end is disconnected. */
+/* Prints why the front end is disconnected. */
 static enum outcome wrong(const char *what)
 {
 	transport_say(by->program, "disconnecting: %s", what);
 	return GONE;
 }
 
-/* The same of a message that is refused. Its header came whole, unless the refusal is VHOST_CUT. */
+/* The same for a message that is refused. Its header is complete, unless the refusal is VHOST_CUT. */
 static enum outcome refused(const struct message *m, uint32_t refusal)
 {
 	static const char *const whys[VHOST_REFUSALS] = {
@@ -144,7 +144,8 @@ static enum outcome refused(const struct message *m, uint32_t refusal)
 	const char *why = refusal < VHOST_REFUSALS ? whys[refusal] : NULL;
 	uint32_t request;
 
-	/* (the number of one that is not served helps who wonders what the front end wanted) */
+	/* An unsupported message has no reason here, but its number helps to find which feature the front end
+	 * needs. */
 	if (why)
 		return wrong(why);
 	memcpy(&request, m->head, sizeof(request));
@@ -152,9 +153,9 @@ static enum outcome refused(const struct message *m, uint32_t refusal)
 	return GONE;
 }
 
-/* Maps the first `len` bytes of a file, and fills in how many are mapped. Linux maps huge pages whole, and
- * refuses to unmap a part of one or to map over it, so the length must be a multiple of theirs. NULL: it can't
- * be mapped. */
+/* Maps the first `len` bytes of a file, and stores the length of the mapping. Linux maps only whole huge
+ * pages, and can neither unmap nor replace a part of one, so the length must be a multiple of theirs. Returns
+ * NULL on failure. */
 static unsigned char *map_file(int descriptor, uint64_t len, size_t *mapped)
 {
 	struct statfs system;
@@ -169,10 +170,10 @@ static unsigned char *map_file(int descriptor, uint64_t len, size_t *mapped)
 	return map == MAP_FAILED ? NULL : map;
 }
 
-/* Maps a region that the front end shares, which is the next one. The descriptor stays the caller's. A file
- * that is shorter is refused; if it is cut later a worker gets a SIGBUS, which lose_memory() handles. It is
- * mapped from its first byte on, since an offset need not be one of a page. Size and offset together are no
- * more than a file may have. */
+/* Maps a region that the front end shares, as the next one. The caller must close the descriptor. A file that
+ * is too short is refused; if it is truncated later, a worker gets a SIGBUS, which lose_memory() handles. The
+ * mapping begins at the first byte of the file, because the offset need not be a multiple of a page. Size and
+ * offset together do not exceed the largest size of a file. */
 static enum outcome share_region(const struct vhost_region *shared, int descriptor)
 {
 	struct region *r = &vhost_guest->region[vhost_guest->regions];
@@ -190,9 +191,8 @@ static enum outcome share_region(const struct vhost_region *shared, int descript
 	return DONE;
 }
 
-/* Takes over the memory that the front end shares, in place of what it shared before: SET_MEM_TABLE. What
- * was mapped is gone, and so are pointers into it: the rings of each queue are found anew. There are as
- * many descriptors as regions. */
+/* Replaces the shared memory: SET_MEM_TABLE. The old regions are unmapped, which invalidates pointers to
+ * them, so the rings of each queue must be found again. There are as many descriptors as regions. */
 static enum outcome share_memory(const struct message *m)
 {
 	enum outcome outcome = DONE;
@@ -205,8 +205,8 @@ static enum outcome share_memory(const struct message *m)
 	return outcome;
 }
 
-/* Maps the log that the front end shares, in place of the one before: SET_LOG_BASE. It has a bit for each
- * page of the guest, and may be shorter than its memory. */
+/* Replaces the dirty log: SET_LOG_BASE. It has a bit for each page of the guest, and may be too short for its
+ * memory. */
 static enum outcome share_log(const struct message *m)
 {
 	struct log *log = &vhost_guest->log;
@@ -228,14 +228,15 @@ static enum outcome share_log(const struct message *m)
 	return DONE;
 }
 
-/* Takes the only descriptor of a message, which is the caller's to close then; -1: it has none, as
+/* Takes the only descriptor of a message, which the caller must close. Returns -1 if the message has none, as
  * SET_VRING_KICK may. */
 static int take_descriptor(struct message *m)
 {
 	return m->said.descriptors ? m->descriptor[--m->descriptors] : -1;
 }
 
-/* Sends a reply whole, or hangs up: who doesn't read for as long as serve_client() allows, or has gone. */
+/* Sends a complete reply. A front end that does not read it within the timeout of serve_client(), or has
+ * disconnected, is disconnected. */
 static enum outcome reply(int client, uint32_t request, void *body, uint32_t size)
 {
 	uint32_t head[] = { request, VERSION | IS_REPLY, size };
@@ -252,9 +253,9 @@ static enum outcome reply_number(int client, uint32_t request, uint64_t number)
 	return reply(client, request, &number, sizeof(number));
 }
 
-/* Receives the bytes of a message after the first `done`, and returns how many there are then. recv(2) returns
- * fewer, or EINTR, where this process is stopped and goes on. So it is called again, but a few times alone,
- * since who sends a byte at a time may have each call take as long as serve_client() allows. */
+/* Receives the bytes of a message after the first `done`, and returns their total number. recv(2) returns
+ * fewer, or EINTR, if this process is stopped and continued. So it is repeated, but only a few times, because
+ * a front end that sends single bytes could make each call last as long as the timeout of serve_client(). */
 static size_t receive_rest(int client, unsigned char *bytes, size_t done, size_t len)
 {
 	for (int calls = 0; done < len && calls < 4; calls++) {
@@ -268,9 +269,9 @@ static size_t receive_rest(int client, unsigned char *bytes, size_t done, size_t
 	return done;
 }
 
-/* Receives a message with its descriptors, which are the caller's to close, whatever it answers. They come
- * with the header, and there is room for as many as a table of memory may have: of more, MSG_CTRUNC tells.
- * The size of the payload is looked at before that is read, so it fits. */
+/* Receives a message with its descriptors, which the caller must close, even on failure. They come with the
+ * header. There is space for as many as a table of memory may have; if there are more, MSG_CTRUNC is set. The
+ * size of the payload is checked before it is read, so it fits. */
 static enum outcome receive(int client, struct message *m)
 {
 	_Alignas(struct cmsghdr) char control[CMSG_SPACE(sizeof(m->descriptor))];
@@ -303,7 +304,7 @@ static enum outcome receive(int client, struct message *m)
 	return receive_rest(client, m->body, 0, m->size) == m->size ? DONE : refused(m, VHOST_CUT);
 }
 
-/* Receives a message, and finds what it says. */
+/* Receives a message and decodes it. */
 static enum outcome receive_said(int client, struct message *m)
 {
 	const enum outcome outcome = receive(client, m);
@@ -316,7 +317,7 @@ static enum outcome receive_said(int client, struct message *m)
 	return refusal ? refused(m, refusal) : DONE;
 }
 
-/* The queue of a message, which is one from now on. Its number is below QUEUES, as offered. */
+/* Returns the queue of a message, whose number is below QUEUES. */
 static struct queue *queue_of(const struct message *m)
 {
 	if (m->said.queue >= queues)
@@ -324,9 +325,9 @@ static struct queue *queue_of(const struct message *m)
 	return &vhost_guest->queue[m->said.queue];
 }
 
-/* Does what a message of one queue asks. Numbers are those that can be: a size is a power of two up to
- * 32768, a base an index of 16 bits. The rings are aligned, but may lie in no memory, and then the queue is
- * stopped, or over one another, which harms the guest alone. No request is in flight. */
+/* Handles a message for one queue. Its numbers are valid: a size is a power of two up to 32768, a base an
+ * index of 16 bits. The rings are aligned, but may be outside the shared memory, which stops the queue, or
+ * overlap, which harms only the guest. No request may be in flight. */
 static enum outcome obey_for(int client, struct message *m, struct queue *q)
 {
 	uint32_t state[] = { m->said.queue, q->next };
@@ -345,11 +346,11 @@ static enum outcome obey_for(int client, struct message *m, struct queue *q)
 		queue_place(q);
 		return DONE;
 	case SET_VRING_BASE:
-		/* (with no request in flight as many were given back as were taken) */
+		/* Without a request in flight, all chains that were taken are completed. */
 		q->next = q->done = (uint16_t)m->said.number;
 		return DONE;
 	case GET_VRING_BASE:
-		/* It stops the queue, up to its next kick. */
+		/* This stops the queue until its next kick. */
 		if (reply(client, GET_VRING_BASE, state, sizeof(state)) == GONE)
 			return GONE;
 		queue_kick(q, -1);
@@ -367,8 +368,8 @@ static enum outcome obey_for(int client, struct message *m, struct queue *q)
 	}
 }
 
-/* Takes over the features that were agreed on, all of which were offered. Without
- * VHOST_USER_F_PROTOCOL_FEATURES there is no SET_VRING_ENABLE, and queues begin enabled. */
+/* Sets the features that the front end has accepted, all of which are supported. Without
+ * VHOST_USER_F_PROTOCOL_FEATURES there is no SET_VRING_ENABLE, so queues are enabled initially. */
 static void take_features(uint64_t features)
 {
 	vhost_guest->logs = (features & LOG_ALL) != 0;
@@ -377,12 +378,13 @@ static void take_features(uint64_t features)
 
 		q->enabled |= !(features & PROTOCOL_FEATURES);
 		q->has_events = (features & EVENT_INDICES) != 0;
-		/* (a ring has its index after it then) */
+		/* With these indices a ring is longer. */
 		queue_place(q);
 	}
 }
 
-/* Has what signals the log: SET_LOG_FD. It is closed with the log. The log may come before or after it. */
+/* Sets the descriptor that notifies of marks in the log: SET_LOG_FD. It is closed with the log, which may be
+ * set before or after it. */
 static enum outcome call_log(int event)
 {
 	struct log *log = &vhost_guest->log;
@@ -394,11 +396,11 @@ static enum outcome call_log(int event)
 	return DONE;
 }
 
-/* Saves or loads the state of the device, by a descriptor that the front end has the other end of. It waits
- * for that, and then asks by CHECK_DEVICE_STATE what came of it. The reply comes first, since it begins to
- * read or write after that. A state that it doesn't take, or breaks off, fails: meanwhile no request is
- * served, so it is waited for only as long as the front end is there and no signal comes. The message is
- * offered only where `save` and `load` are there. */
+/* Saves or loads the state of the device, by a descriptor whose other end the front end has. The front end
+ * waits for the end of the state, and then reads the result by CHECK_DEVICE_STATE. The reply must be sent
+ * first, because the front end begins to read or write only after it. If the front end does not take or send
+ * the state completely, the transfer fails. No request is served meanwhile, so the wait ends when the front
+ * end disconnects or a signal comes. The message is supported only if `save` and `load` are set. */
 static enum outcome transfer_state(int client, int signals, struct message *m)
 {
 	transport_state *state = state_new(take_descriptor(m), signals, client);
@@ -415,7 +417,8 @@ static enum outcome transfer_state(int client, int signals, struct message *m)
 	return REPLIED;
 }
 
-/* Tells whether the state went wholly: 0, and 1 if not, or if no state went since it was last asked. */
+/* Replies whether the last state was transferred completely: 0, or 1 if not, or if there was no transfer
+ * since the last reply. */
 static enum outcome check_state(int client)
 {
 	const uint64_t failed_so = state_failed;
@@ -424,7 +427,7 @@ static enum outcome check_state(int client)
 	return reply_number(client, CHECK_DEVICE_STATE, failed_so);
 }
 
-/* Does what a message asks, with no request in flight. What is for one queue comes to obey_for(). */
+/* Handles a message while no request is in flight. obey_for() handles messages for one queue. */
 static enum outcome obey(int client, int signals, struct message *m)
 {
 	enum outcome outcome;
@@ -432,11 +435,12 @@ static enum outcome obey(int client, int signals, struct message *m)
 	switch (m->said.request) {
 	case GET_FEATURES:
 		return reply_number(client, GET_FEATURES, offer.features);
-	/* (it may come again, as with VHOST_F_LOG_ALL once the machine migrates) */
+	/* SET_FEATURES may be repeated, for example with VHOST_F_LOG_ALL when a migration begins. */
 	case SET_FEATURES:
 		take_features(m->said.number);
 		return DONE;
-	/* (there is one front end at a time; and no error of a queue is told, so that descriptor is closed) */
+	/* There is only one front end at a time, so these need no action. Errors of queues are never
+	 * reported, so that descriptor is closed. */
 	case SET_OWNER:
 	case RESET_OWNER:
 	case SET_VRING_ERR:
@@ -464,9 +468,8 @@ static enum outcome obey(int client, int signals, struct message *m)
 	}
 }
 
-/* Whether a message changes queues or memory, in which a request may wait, or tells of all requests: then
- * what is kept has to be answered before it, since it has pointers into that memory and a place in that
- * queue. */
+/* Whether a message changes queues or memory, or saves the state of all requests. Kept requests must be
+ * completed before such a message, because they have pointers to that memory and a place in that queue. */
 static int changes(const struct message *m)
 {
 	switch (m->said.request) {
@@ -483,9 +486,9 @@ static int changes(const struct message *m)
 	}
 }
 
-/* Takes one message, if the front end has not hung up, and does what it asks, with no request in flight. A
- * front end that set REPLY_ACK, and wants a reply of this message, gets 0: what fails is no reply but an
- * end. Descriptors that nobody took are closed. */
+/* Receives a message, unless the front end has disconnected, and handles it while no request is in flight. If
+ * the front end has set REPLY_ACK and requests a reply to this message, it gets 0, because a failure
+ * disconnects it. Descriptors that were not taken are closed. */
 static enum outcome serve_message(int client, int signals)
 {
 	struct message m;
@@ -494,8 +497,7 @@ static enum outcome serve_message(int client, int signals)
 
 	if (recalls)
 		queues_recall();
-	/* (a request that takes long holds a message up, but neither a signal nor that the front end hangs
-	 * up) */
+	/* A request that takes long delays a message, but neither a signal nor a disconnected front end. */
 	if (outcome == DONE && (recalls ? queues_hold_answered : queues_hold)(signals, client)) {
 		outcome = GONE;
 	} else if (outcome == DONE) {
@@ -510,8 +512,7 @@ static enum outcome serve_message(int client, int signals)
 	return outcome;
 }
 
-/* Lets go of what the front end told and shared, with no request in flight, so that the next one begins as
- * the first did. */
+/* Drops all state of a front end while no request is in flight, so that the next one starts afresh. */
 static void clear_guest(void)
 {
 	for (int i = 0; i < QUEUES; i++) {
@@ -530,10 +531,10 @@ static void clear_guest(void)
 	guest_end_log(vhost_guest);
 }
 
-/* Lets go of all that a front end left, and tells what came of its requests. -1: that can't be, or a signal
- * came: then what it shared is left as it is, and all is to end. Where a request doesn't come back, its
- * worker keeps what was shared. The event of lost memory is for this front end: it is read until there is
- * none. */
+/* Drops all state of a front end, and prints statistics of its requests. Returns -1 if that failed or a
+ * signal came: then the shared memory remains, and the process must end. If a request does not return, its
+ * worker keeps the shared memory. The event of lost memory is for this front end only, so it is read until it
+ * is empty. */
 static int part_from_client(int client, int signals)
 {
 	const int parted = queues_part(signals);
@@ -549,7 +550,7 @@ static int part_from_client(int client, int signals)
 	queues = 0;
 	protocol = 0;
 	state_failed = 1;
-	/* (before a request of the next front end comes, which is another client) */
+	/* This must precede the requests of the next front end, which is a different client. */
 	if (machine->parted)
 		machine->parted(by->user);
 	if (!parted)
@@ -562,17 +563,17 @@ static int part_from_client(int client, int signals)
 
 /* ---- front ends */
 
-/* In milliseconds: when the process ends after a signal, whatever still waits. */
+/* In milliseconds: when the process ends after a signal, even if a thread is blocked. */
 enum { MOST_END = 1800 };
 
-/* What ended a wait: a signal, the front end, or a fault here, which was told. */
+/* Why a wait has ended: a signal, the front end has disconnected, or an error, which was reported. */
 enum end { SIGNALLED, HUNG_UP, BROKEN };
 
-/* Serves a front end until it hangs up or is hung up on, and closes its socket. A signal is not read, but
- * looked at: the other thread waits for it too. */
+/* Serves a front end until it disconnects or must be disconnected, and closes its socket. Signals are not
+ * read here, because the other thread waits for them too. */
 static enum end serve_client(int client, int signals)
 {
-	/* A message that comes in part is not waited for longer. */
+	/* This limits the time for a message that is not complete. */
 	const struct timeval most = { .tv_sec = 10 };
 	enum end end = HUNG_UP;
 
@@ -594,7 +595,7 @@ static enum end serve_client(int client, int signals)
 			failed("poll");
 			wait[1].revents = POLLIN;
 		}
-		/* (a signal, and a worker that failed, come before what the front end still asks) */
+		/* A signal, or a worker that has failed, has precedence over the front end. */
 		if (wait[0].revents || wait[1].revents) {
 			end = wait[1].revents ? BROKEN : SIGNALLED;
 			break;
@@ -605,7 +606,7 @@ static enum end serve_client(int client, int signals)
 		}
 		if (wait[2].revents && serve_message(client, signals) == GONE)
 			break;
-		/* What was told may have let a queue begin that was kicked before. */
+		/* The message may have started a queue that was kicked before. */
 		for (size_t i = 0; i < queues; i++)
 			if (vhost_guest->queue[i].enabled)
 				queue_look(&vhost_guest->queue[i]);
@@ -618,8 +619,8 @@ static enum end serve_client(int client, int signals)
 	return end;
 }
 
-/* Serves one front end after another. One that connects meanwhile waits in the socket's queue. What a front
- * end can bring about, as one that hangs up before it is accepted, ends nothing. */
+/* Serves one front end after another. Others wait in the queue of the socket meanwhile. An error that a front
+ * end can cause, such as disconnecting before accept(2), must not end the server. */
 static enum end serve_clients(int listener, int signals)
 {
 	const struct timespec pause = { 1, 0 };
@@ -643,7 +644,7 @@ static enum end serve_clients(int listener, int signals)
 		if (client >= 0) {
 			end = serve_client(client, signals);
 		} else if (errno == EMFILE || errno == ENFILE || errno == ENOBUFS || errno == ENOMEM) {
-			/* (others may give some back) */
+			/* Other processes may free descriptors or memory. */
 			failed("accept a connection");
 			nanosleep(&pause, NULL);
 		} else if (errno != EAGAIN && errno != ECONNABORTED && errno != EINTR) {
@@ -654,8 +655,7 @@ static enum end serve_clients(int listener, int signals)
 	return end;
 }
 
-/* Ends the process, although a worker, or the calling thread, waits for what does not come. Nothing is
- * freed. */
+/* Ends the process although a worker, or the calling thread, is blocked. Nothing is freed. */
 static _Noreturn void leave(int status)
 {
 	if (by->left)
@@ -664,14 +664,15 @@ static _Noreturn void leave(int status)
 	_exit(status);
 }
 
-/* What waits for signals too: the calling thread may be late. `ended` is told once all has ended. */
+/* The data of a thread that also waits for signals, because the calling thread may be late. `ended` is
+ * written when all has ended. */
 struct guard {
 	pthread_t thread;
 	int signals, ended;
 };
 
-/* Waits for a signal, and then MOST_END for the end. Status 0: a signal is no failure, even if a request is
- * left. */
+/* Waits for a signal, and then for the end, at most MOST_END. The status is 0, because a signal is not a
+ * failure, even if a request is left. */
 static void *keep_guard(void *given)
 {
 	const struct guard *g = given;
@@ -686,9 +687,9 @@ static void *keep_guard(void *given)
 	return NULL;
 }
 
-/* Serves the front ends of a listening socket, or the only one of the other, by workers. Answers the
- * status. Signals are blocked here, so the threads that begin have them blocked too, and the descriptor
- * alone tells of them. */
+/* Serves the front ends of a listening socket, or the only one of `client`, with workers. Returns the exit
+ * status. Signals are blocked here and so in all threads that start, because only the signalfd should receive
+ * them. */
 static int serve_guarded(struct guard *g, int listener, int client)
 {
 	const uint64_t one = 1;
@@ -707,9 +708,9 @@ static int serve_guarded(struct guard *g, int listener, int client)
 	return end == BROKEN;
 }
 
-/* Serves by a listening socket or, if that is -1, a client's. A listener is closed when it answers, and so
- * is a client that was served. What is offered of migration takes a file system that can save and load what
- * a client knows. */
+/* Serves by a listening socket or, if that is -1, a client's. The listening socket is closed afterwards, and
+ * so is a client that was served. Migration is supported only if the file system can save and load the state
+ * of a client. */
 static int serve_with_workers(const nizwarf_transport *with, int listener, int client)
 {
 	const sigset_t ending = transport_hold_signals(SIG_BLOCK);
@@ -720,7 +721,8 @@ static int serve_with_workers(const nizwarf_transport *with, int listener, int c
 	machine = transport_machine(with);
 	offer = (struct vhost_offer){ VERSION_1 | PROTOCOL_FEATURES | INDIRECT_DESCRIPTORS | EVENT_INDICES,
 				      MANY_QUEUES | REPLY_ACK, QUEUES };
-	/* (a machine migrates only if its writes are marked, and what its client knows can go with it) */
+	/* A machine can migrate only if its writes are marked and the state of its client can be
+	 * transferred. */
 	if (machine->save && machine->load) {
 		offer.features |= LOG_ALL;
 		offer.protocol |= LOG_IN_FILE | DEVICE_STATE;
@@ -743,7 +745,7 @@ static int serve_with_workers(const nizwarf_transport *with, int listener, int c
 
 int vhost_user_serve(const nizwarf_transport *with, int listener)
 {
-	/* (who connected may be gone again when it is accepted) */
+	/* A front end may disconnect before accept(2), which must not block then. */
 	fcntl(listener, F_SETFL, O_NONBLOCK);
 	return serve_with_workers(with, listener, -1);
 }
@@ -753,22 +755,23 @@ int vhost_user_serve_one(const nizwarf_transport *with, int client)
 	return serve_with_workers(with, -1, client);
 }
 
-/* Says why a path can't be that of a socket. */
+/* Prints why a path is not suitable for a socket, and returns `answer`. */
 static int refuse(const nizwarf_transport *with, int answer, const char *path, const char *why)
 {
 	transport_say(with->program, "cannot listen on '%s': %s", path, why);
 	return answer;
 }
 
-/* The socket that was made: its path from the root on, as a server may change its working directory, and its file, open
- * so that its number is no other file's until the process ends; -1: there is none. The path is set before that, and does
- * not change, as another thread may remove the socket. */
+/* The socket that was made: its absolute path, because a server may change its working directory, and an open
+ * descriptor of its file, so that no other file has the same inode number until the process ends, or -1. The
+ * path is set before the descriptor and does not change, because another thread may remove the socket. */
 static struct {
 	char path[PATH_MAX];
 	atomic_int file;
 } made = { .file = -1 };
 
-/* (Linux can't remove a name of one file alone: one that takes its place between the look and the removing goes) */
+/* Linux has no call that removes a name only if it leads to a certain file. So if another file takes its
+ * place after the check, that file is removed. */
 void vhost_user_remove_socket(void)
 {
 	struct stat own, there;
@@ -785,8 +788,8 @@ void vhost_user_leave_socket(void)
 	made.file = -1;
 }
 
-/* Keeps the file of a socket that was just bound, to know it again. 0, or -1 with errno, and then the path leads to
- * no socket. */
+/* Opens the file of a socket that was just bound, to recognise it later. Returns 0, or -1 with errno if the
+ * path does not lead to a socket. */
 static int keep_made(const char *path)
 {
 	const int file = open(path, O_PATH | O_NOFOLLOW | O_CLOEXEC);
@@ -806,17 +809,17 @@ static int keep_made(const char *path)
 	return -1;
 }
 
-/* What is at the path is removed only if it is a socket on which nobody listens, as one that a server left
- * which was killed. Who may write to the folder could put something else there in between, and so is to be
- * trusted; but bind(2) takes no path that is there. Signals are blocked before there is a socket, so that
- * one can't end the process and leave it. */
+/* A file at the path is removed only if it is a socket on which nobody listens, for example because its
+ * server was killed. A user with write permission for the directory could put another file there in between,
+ * and so must be trusted; but bind(2) does not replace an existing file. Signals are blocked before the
+ * socket is made, so that none can end the process and leave it. */
 int vhost_user_listen(const nizwarf_transport *with, const char *path)
 {
 	struct sockaddr_un address = { .sun_family = AF_UNIX };
 	int probe, listener, why;
 	struct stat there;
 
-	/* (an empty one would be a name that has no file) */
+	/* An empty path would be that of an unnamed socket. */
 	if (!*path || strlen(path) >= sizeof(address.sun_path))
 		return refuse(with, -2, path,
 			      *path ? "the path is longer than 107 bytes" : "the path is empty");
@@ -829,7 +832,7 @@ int vhost_user_listen(const nizwarf_transport *with, const char *path)
 												   errno;
 		if (probe >= 0)
 			close(probe);
-		/* EAGAIN: that many wait there already. */
+		/* EAGAIN means that the queue of the listening socket is full. */
 		if (why == EAGAIN)
 			return refuse(with, -1, path, "another process listens on it");
 		if (why != ECONNREFUSED || unlink(path))
