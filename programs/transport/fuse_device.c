@@ -906,7 +906,6 @@ int fuse_device_joins(pthread_t thread)
 	return 0;
 }
 
-/* Whether a request is being served. */
 static int is_answering(struct device *d)
 {
 	for (int i = 0; i < NIZWARF_MAX_WORKERS; i++)

@@ -562,7 +562,6 @@ int fuse_ring_end(struct fuse_rings *r)
 	return failed;
 }
 
-/* Makes all workers. Returns 0, or -1. */
 static int make_each(struct fuse_rings *r)
 {
 	for (unsigned i = 0; i < r->workers; i++) {
@@ -586,7 +585,6 @@ unsigned fuse_ring_count_workers(const nizwarf_transport *by, unsigned queues)
 	return queues < most ? queues * (wanted < fit ? wanted : fit) : most;
 }
 
-/* Sets the initial state of the rings and workers. */
 static void set_out(struct fuse_rings *r, const nizwarf_transport *by, int device, unsigned queues)
 {
 	r->by = by;

@@ -665,7 +665,6 @@ static struct guest *take_guest(void)
 	return g;
 }
 
-/* Drops late replies of a guest that has disconnected. */
 static void drop_late(struct guest *g)
 {
 	struct late *late;

@@ -304,7 +304,6 @@ static enum outcome receive(int client, struct message *m)
 	return receive_rest(client, m->body, 0, m->size) == m->size ? DONE : refused(m, VHOST_CUT);
 }
 
-/* Receives a message and decodes it. */
 static enum outcome receive_said(int client, struct message *m)
 {
 	const enum outcome outcome = receive(client, m);
