@@ -92,6 +92,14 @@ def wait_until(fact, seconds=BEGIN):
     return True
 
 
+def come_to(act, *given):
+    """Returns what an act comes to, or its error, so that both can be compared."""
+    try:
+        return act(*given)
+    except OSError as error:
+        return f"error {error.errno}"
+
+
 def last_child(pid):
     """The last child of a process, or the process itself if it has none."""
     return int((setting(f"/proc/{pid}/task/{pid}/children").split() or [pid])[-1])

@@ -14,7 +14,7 @@ import time
 
 import pytest
 from building import run
-from conftest import has_sanitizer, wait_until
+from conftest import come_to, has_sanitizer, wait_until
 from requirements import setting
 from test_share_calls import put
 from test_share_socket import CAPABILITIES, capabilities_of
@@ -44,14 +44,6 @@ def processes(server):
 def got(path):
     with open(path, "rb") as file:
         return file.read()
-
-
-def come_to(act, *given):
-    """What an act comes to, or its error."""
-    try:
-        return act(*given)
-    except OSError as error:
-        return f"error {error.errno}"
 
 
 # ---- random calls

@@ -8,7 +8,7 @@ import threading
 import time
 
 import pytest
-from conftest import wait_until
+from conftest import come_to, wait_until
 
 pytestmark = [pytest.mark.fuse, pytest.mark.sanitizers]
 HOUR = "--cache=always", "-oentry_timeout=3600,attr_timeout=3600,negative_timeout=3600"
@@ -28,14 +28,6 @@ def put(path, data, mode="w"):
 def got(path):
     with open(path) as file:
         return file.read()
-
-
-def error_of(act, *given):
-    """What a call comes to, or its error: both can be compared."""
-    try:
-        return act(*given)
-    except OSError as error:
-        return f"error {error.errno}"
 
 
 def look_at(path):
@@ -92,7 +84,7 @@ class Watching:
 
     def differing(self, names):
         """Names that the mount does not show as the directory has them."""
-        return [it for it in names if error_of(look_at, self.path / it) != error_of(look_at, self.directory / it)]
+        return [it for it in names if come_to(look_at, self.path / it) != come_to(look_at, self.directory / it)]
 
     def see(self, *names):
         """Waits until the mount shows these names as the directory has them."""
@@ -144,7 +136,7 @@ def test_a_directory_in_use_that_goes_is_seen(watch, directory):
     place = os.open(it.path / "used", os.O_PATH)
     (directory / "used").rmdir()
     it.see("used")
-    assert error_of(lambda: os.open("x", os.O_CREAT, dir_fd=place)) == "error 2"
+    assert come_to(lambda: os.open("x", os.O_CREAT, dir_fd=place)) == "error 2"
     os.close(place)
 
 
@@ -209,14 +201,14 @@ def change_as_others_do(stop, place, who):
     while not stop.is_set():
         turn += 1
         name = f"{place}/busy/{turn % 50}"
-        error_of(put, name, who * (turn % 9), "wa"[turn % 2])
-        error_of(os.chmod, name, (0o600, 0o644, 0o755)[turn % 3])
-        error_of(os.rename, name, f"{place}/busy/{turn % 7}{who}")
-        error_of(os.remove, f"{place}/busy/{turn % 13}{who}")
-        error_of(os.mkdir, f"{place}/busy/d{turn % 5}")
-        error_of(os.rmdir, f"{place}/busy/d{turn % 3}")
-        error_of(os.listdir, f"{place}/busy")
-        error_of(got, f"{place}/busy/{turn % 20}")
+        come_to(put, name, who * (turn % 9), "wa"[turn % 2])
+        come_to(os.chmod, name, (0o600, 0o644, 0o755)[turn % 3])
+        come_to(os.rename, name, f"{place}/busy/{turn % 7}{who}")
+        come_to(os.remove, f"{place}/busy/{turn % 13}{who}")
+        come_to(os.mkdir, f"{place}/busy/d{turn % 5}")
+        come_to(os.rmdir, f"{place}/busy/d{turn % 3}")
+        come_to(os.listdir, f"{place}/busy")
+        come_to(got, f"{place}/busy/{turn % 20}")
 
 
 @pytest.mark.parametrize("is_ended", [False, True])
@@ -257,7 +249,7 @@ def test_where_few_files_may_be_watched_the_others_are_remembered_for_a_second(w
         pytest.skip("requires that users can mount in a namespace of theirs")
 
     def look(*names):
-        return [error_of(got, f"/proc/{process.pid}/root{path}/{it}") for it in names]
+        return [come_to(got, f"/proc/{process.pid}/root{path}/{it}") for it in names]
 
     look("data", "mode", "owner", "times", "mapping", "gone")
     put(directory / "mapping", "NEW")
