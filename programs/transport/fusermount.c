@@ -129,7 +129,7 @@ static int is_interrupted(void)
  * error. */
 static int finish(const struct mount_point *at, pid_t process, int is_wanted)
 {
-	const struct timespec pause = { 0, TICK * 1000000 };
+	const struct timespec pause = { 0, TICK * 1000000L };
 	int status = 0;
 
 	for (int waited = 0; waitpid(process, &status, WNOHANG) == 0; waited += TICK) {
