@@ -43,7 +43,7 @@ struct codec_req {
 	/* This must be the first member, for the same reason as in a session. */
 	struct fuse_req req;
 	int state; /* CODEC_PRIVATE, CODEC_SHARED or CODEC_ENDED */
-	/* The decoded call. If there is none, `opcode` is 0 and `reply` is NIZWARF_REPLY_NONE: the reply is
+	/* The decoded call. Without a call, `opcode` is 0 and `reply` is NIZWARF_REPLY_NONE: the reply is
 	 * then a header alone, and no other field is read. */
 	nizwarf_call call;
 };

@@ -52,7 +52,7 @@ static struct fuse_req *remove_pending(struct fuse_session *se, struct fuse_req 
 	return interrupt;
 }
 
-/* Frees the pending interrupt of a request. Returns 0 if there is none. */
+/* Frees the pending interrupt of a request. Returns 0 if none is pending. */
 static int free_pending(struct fuse_session *se, uint64_t unique)
 {
 	struct fuse_req *interrupt;

@@ -8,7 +8,7 @@ the file is of an unknown version of libfuse, in which the functions to replace 
 import re
 import sys
 
-# Functions that must all exist, because the files here replace them or call what they called.
+# Functions that must all exist, because the files here replace them, or call the functions that they called.
 REPLACED = """send_reply_iov send_notify_iov fuse_reply_entry fuse_reply_attr fuse_reply_write fuse_reply_data
 fuse_lowlevel_notify_store fuse_ll_alloc_req fill_entry fuse_add_direntry fuse_add_direntry_plus check_interrupt do_lookup
 do_forget do_read do_write_buf do_setattr do_interrupt do_notify_reply opname""".split()

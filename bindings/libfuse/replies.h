@@ -218,7 +218,7 @@ static inline void clear_result(nizwarf_result *result, uint64_t options)
 }
 
 /* Clears those fields of this thread's answer that each kind of reply reads. The caller must set the fields
- * of its kind. The whole struct is not cleared, because that would be 256 bytes for each reply. */
+ * of its kind. The whole struct is not cleared, because that would be 264 bytes for each reply. */
 static void clear_answer(struct codec_thread *t)
 {
 	nizwarf_answer *answer = &t->answer;
@@ -229,6 +229,7 @@ static void clear_answer(struct codec_thread *t)
 	answer->has_handle = 0;
 	answer->text = NULL;
 	answer->text_len = 0;
+	answer->init_params = NULL; /* of an earlier INIT, whose parameters are gone */
 }
 
 /* Converts a timeout to seconds and nanoseconds, as calc_timeout_sec and calc_timeout_nsec do, but in fewer

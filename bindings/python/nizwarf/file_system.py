@@ -9,7 +9,7 @@ from ._library import Attr, Connection, Lock, Request, SetAttr, Statfs
 OpenFlag = enum.IntFlag("OpenFlag", "DIRECT_IO KEEP_CACHE NONSEEKABLE CACHE_DIR STREAM NOFLUSH PARALLEL_DIRECT_WRITES")
 OpenFlag.__doc__ = """How the kernel uses an open file: bits of `Opened.flags`.
 
-DIRECT_IO: nothing is cached, so that each read(2) and write(2) calls a method. KEEP_CACHE: what is cached of the file is still
+DIRECT_IO: nothing is cached, so that each read(2) and write(2) calls a method. KEEP_CACHE: the cached data of the file stay
 valid. NONSEEKABLE: lseek(2) fails. CACHE_DIR: the kernel caches the listing of the directory. STREAM: the file has no offset,
 as a pipe. NOFLUSH: closing a descriptor does not call `flush`. PARALLEL_DIRECT_WRITES: with DIRECT_IO the kernel need not wait
 for one write before the next."""

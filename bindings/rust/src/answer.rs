@@ -170,13 +170,13 @@ impl<K> To<K> {
     /// which accepts 1 to 511. A call without a reply still gets none.
     pub fn fail<'s>(mut self, scratch: &'s mut Scratch, error: &io::Error) -> Encoded<'s> {
         self.pending.answer.error = answered(error).number();
-        tell(self.pending, scratch, &[], &[])
+        encode(self.pending, scratch, &[], &[])
     }
 
     /// Answers with success.
     fn succeed<'s>(mut self, scratch: &'s mut Scratch, text: &[u8], items: &[DirItem<'_>]) -> Encoded<'s> {
         self.pending.answer.error = 0;
-        tell(self.pending, scratch, text, items)
+        encode(self.pending, scratch, text, items)
     }
 
     /// Answers with an error, or with a text.
@@ -204,7 +204,7 @@ impl<K> To<K> {
 
 /// Encodes the answer to a call.
 #[inline(never)]
-fn tell<'s>(
+fn encode<'s>(
     pending: Box<Pending>, scratch: &'s mut Scratch, text: &[u8], items: &[DirItem<'_>],
 ) -> Encoded<'s> {
     let call = &pending.call;

@@ -61,82 +61,82 @@ impl Notifier {
     /// data from there if `len` is 0. If `offset` is negative, only the attributes are dropped. ENOENT if the
     /// client does not know the node.
     pub fn inval_inode(&self, node: u64, offset: i64, len: i64) -> io::Result<()> {
-        self.tell_outside(Notice::InvalInode { node, offset, len }, &[])
+        self.send_outside(Notice::InvalInode { node, offset, len }, &[])
     }
 
     /// Drops a cached name, with the names below it. ENOENT if the client does not cache it.
     pub fn inval_entry(&self, parent: u64, name: &CStr) -> io::Result<()> {
-        self.tell_of_name(Notice::InvalEntry { parent, flags: 0, name }, name)
+        self.send_name(Notice::InvalEntry { parent, flags: 0, name }, name)
     }
 
     /// Lets a name expire: it is looked up again when it is used. Linux supports this if it is capable of
     /// [`HAS_EXPIRE_ONLY`](crate::FsOptions::HAS_EXPIRE_ONLY).
     pub fn expire_entry(&self, parent: u64, name: &CStr) -> io::Result<()> {
         const FUSE_EXPIRE_ONLY: u32 = 1;
-        self.tell_of_name(Notice::InvalEntry { parent, flags: FUSE_EXPIRE_ONLY, name }, name)
+        self.send_name(Notice::InvalEntry { parent, flags: FUSE_EXPIRE_ONLY, name }, name)
     }
 
     /// Drops the name of a node that was removed. Programs that watch it, for example by `inotify(7)`, are
     /// notified.
     pub fn delete(&self, parent: u64, child: u64, name: &CStr) -> io::Result<()> {
-        self.tell_of_name(Notice::Delete { parent, child, name }, name)
+        self.send_name(Notice::Delete { parent, child, name }, name)
     }
 
     /// Puts data into the cache of a file, from `offset` on. If they end after the file, that gets longer.
     pub fn store(&self, node: u64, offset: u64, data: &[u8]) -> io::Result<()> {
         let size = u32::try_from(data.len()).map_err(|_| Errno::EINVAL)?;
-        self.tell_outside(Notice::Store { node, offset, size }, data)
+        self.send_outside(Notice::Store { node, offset, size }, data)
     }
 
     /// Requests cached data of a file. [`FileSystem::notify_reply`](crate::FileSystem::notify_reply) receives
     /// them with this number, if [`NOTIFY_REPLY`](crate::Features::NOTIFY_REPLY) is enabled.
     pub fn retrieve(&self, unique: u64, node: u64, offset: u64, size: u32) -> io::Result<()> {
-        self.tell(Notice::Retrieve { unique, node, offset, size }, &[])
+        self.send(Notice::Retrieve { unique, node, offset, size }, &[])
     }
 
     /// Reports that an event has occurred for which a POLL waits: the file is polled again. It may be sent
     /// inside any call, such as the WRITE that makes the file readable.
     pub fn wake(&self, handle: PollHandle) -> io::Result<()> {
-        self.tell(Notice::Poll { handle: handle.0 }, &[])
+        self.send(Notice::Poll { handle: handle.0 }, &[])
     }
 
     /// Requests that all requests without a reply are sent again. Their numbers then have bit 63. Linux
     /// supports this if it is capable of [`HAS_RESEND`](crate::FsOptions::HAS_RESEND).
     pub fn resend(&self) -> io::Result<()> {
-        self.tell(Notice::Resend {}, &[])
+        self.send(Notice::Resend {}, &[])
     }
 
     /// Lets all names expire. Linux supports this since 6.16.
     pub fn expire_all(&self) -> io::Result<()> {
-        self.tell(Notice::IncEpoch {}, &[])
+        self.send(Notice::IncEpoch {}, &[])
     }
 
     /// Requests that the client forgets these nodes, if they are not in use. Linux supports this since 6.19.
     pub fn prune(&self, nodes: &[u64]) -> io::Result<()> {
         let count = u32::try_from(nodes.len()).map_err(|_| Errno::EINVAL)?;
         let data: Vec<u8> = nodes.iter().flat_map(|node| node.to_le_bytes()).collect();
-        self.tell(Notice::Prune { count }, &data)
+        self.send(Notice::Prune { count }, &data)
     }
 
-    fn tell_of_name(&self, notice: Notice<'_>, name: &CStr) -> io::Result<()> {
+    fn send_name(&self, notice: Notice<'_>, name: &CStr) -> io::Result<()> {
         if name.to_bytes().len() > LONGEST_NAME {
             return Err(Errno::ENAMETOOLONG.into());
         }
-        self.tell_outside(notice, &[])
+        self.send_outside(notice, &[])
     }
 
     /// Sends a notice, unless this thread is inside a call.
-    fn tell_outside(&self, notice: Notice<'_>, data: &[u8]) -> io::Result<()> {
+    fn send_outside(&self, notice: Notice<'_>, data: &[u8]) -> io::Result<()> {
         let device = self.device.as_ptr();
         // (a thread that ends is in no call)
         if CALLS.try_with(|calls| calls.borrow().contains(&device)).unwrap_or(false) {
             return Err(Errno::EDEADLK.into());
         }
-        self.tell(notice, data)
+        self.send(notice, data)
     }
 
     /// Sends a notice, and the data that follow it.
-    fn tell(&self, notice: Notice<'_>, data: &[u8]) -> io::Result<()> {
+    fn send(&self, notice: Notice<'_>, data: &[u8]) -> io::Result<()> {
         let device = self.device.upgrade().ok_or(Errno::ENOTCONN)?;
         let mut head = [0; LONGEST];
         let len = notice.put(&mut head);
